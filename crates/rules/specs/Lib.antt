@@ -1,0 +1,15 @@
+pub mod Words
+pub mod Refusals
+pub mod Ranges
+pub mod Units
+pub mod Sequences
+pub mod Group
+pub mod Hour
+pub mod Fields
+pub mod Lines
+pub mod Record
+pub mod Reading
+pub mod Writing
+pub mod Calls
+pub mod Report
+pub mod Table

@@ -1,0 +1,80 @@
+-- Document 01, "Hours to try": the report's lines, and their text.
+use mathlib.Core.List.{List, [], _∷_, _++_}
+use Prim.Native.Nat.{ℕ, suc, _+_, _-_}
+use lib.ListN.{getD}
+use lib.IntN.{ℤ, pos, negsuc, _+ℤ_}
+use Rattle.rules.specs.Words.{listTo, text}
+use Rattle.rules.specs.Refusals.{Outcome, accepted, refused, numberOf, placeOf, andThen}
+use Rattle.rules.specs.Group.{noRunning, directMwh, incrementalMwh, directCost, incrementalCost, openCost}
+use Rattle.rules.specs.Hour.{numbers, internalAt, Progress, reconstructed}
+use Rattle.rules.specs.Fields.{digits, escape, Chars}
+use Rattle.rules.specs.Record.{chars, sourceAt, deliveryAt}
+use Rattle.rules.specs.Reading.{generated, delivered, reading}
+use Rattle.rules.specs.declared.Hour.{Hour}
+
+pub data ReportLine : Type 0 where
+  hour : (generation losses deliveries load : ℕ) → ReportLine
+  pair : (delivery : Chars) (number : ℕ) (source : Chars) (direct incremental cost : ℤ) → ReportLine
+  internal : (source : Chars) (mwh cost : ℕ) → ReportLine
+  end : ReportLine
+  refusal : (number place : ℕ) → ReportLine
+
+-- "Header: generation, losses, deliveries, internal load."
+abbrev pub headerLine : Hour → ReportLine
+headerLine h = hour (generated h) (h .losses) (delivered h) (generated h - (h .losses + delivered h))
+
+-- "Then each delivery with each source, deck order: label as in the deck, internal number, source, direct MWh, incremental MWh, both costs in one sum."
+abbrev pub pairLine : Hour → Progress → ℕ → ℕ → ReportLine
+pairLine h p j i =
+    pair (chars (deliveryAt h j .label)) (internalAt (numbers h) j) (chars (sourceAt h i .label)) (p .cells j i directMwh) (p .cells j i incrementalMwh)
+    (p .cells j i directCost +ℤ p .cells j i incrementalCost)
+
+-- "Then open MWh and cost of each source."
+abbrev pub openLine : Hour → Progress → ℕ → ReportLine
+openLine h p i = internal (chars (sourceAt h i .label)) (getD (p .states) i noRunning .v) (openCost (getD (p .states) i noRunning))
+
+unfoldable pub hourLines : Hour → Progress → List ReportLine
+hourLines h p =
+    headerLine h ∷ listTo (λ j. listTo (λ i. pairLine h p j i ∷ []) (h .nsources)) (h .ndeliveries) ++
+    (listTo (λ i. openLine h p i ∷ []) (h .nsources) ++ (end ∷ []))
+
+-- "A refusal prints only `refused`, number, place."
+abbrev pub linesOf : Outcome (List ReportLine) → List ReportLine
+linesOf (accepted ls) = ls
+linesOf (refused r) = refusal (numberOf r) (placeOf r) ∷ []
+
+-- the report of a deck, as lines
+unfoldable pub reportLines : List ℕ → List ReportLine
+reportLines s = linesOf (andThen (reading s) λ h. andThen (reconstructed h) λ p. accepted (hourLines h p))
+
+-- Their text.
+
+abbrev pub signedText : ℤ → List ℕ
+signedText (pos n) = digits n
+signedText (negsuc n) = 45 ∷ digits (suc n)
+
+-- a label between its quotes, escapes unread
+abbrev pub labelText : Chars → List ℕ
+labelText cs = 34 ∷ escape cs ++ (34 ∷ [])
+
+-- two texts with a space between
+infixr 5 _␣_
+abbrev pub _␣_ : List ℕ → List ℕ → List ℕ
+x ␣ y = x ++ (32 ∷ y)
+
+unfoldable pub reportText : ReportLine → List ℕ
+reportText (hour generation losses deliveries load) = text "hour" ␣ digits generation ␣ digits losses ␣ digits deliveries ␣ digits load
+reportText (pair delivery number source direct incremental cost) =
+    labelText delivery ␣ digits number ␣ labelText source ␣ signedText direct ␣ signedText incremental ␣ signedText cost
+reportText (internal source mwh cost) = text "internal" ␣ labelText source ␣ digits mwh ␣ digits cost
+reportText end = text "end"
+reportText (refusal number place) = text "refused" ␣ digits number ␣ digits place
+
+-- each line with its LF
+unfoldable pub reportTexts : List ReportLine → List ℕ
+reportTexts [] = []
+reportTexts (l ∷ ls) = reportText l ++ (10 ∷ reportTexts ls)
+
+-- what `report` prints for a deck
+unfoldable pub report : List ℕ → List ℕ
+report s = reportTexts (reportLines s)

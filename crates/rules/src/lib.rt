@@ -1,0 +1,108 @@
+// The types of document 01: an hour record, a source's running state, and a refusal.
+// The rules over them are in specs/, as definitions that compute; this crate holds no code.
+
+// The curve's start k, its coefficients A, B and C in thousandths, and the rate R.
+pub struct HeatCurve {
+    pub k: u32,
+    pub a: u32,
+    pub b: u32,
+    pub c: u32,
+    pub r: u32,
+}
+
+// A unit's levels, generation, high, normal low, oil point low and emergency low, and its curve.
+pub struct Unit {
+    pub g: u32,
+    pub h: u32,
+    pub n: u32,
+    pub o: u32,
+    pub e: u32,
+    pub curve: HeatCurve,
+}
+
+pub enum Plant {
+    Unit(Unit),
+    Purchase { g: u32, rate: u32 },
+    Fixed { g: u32 },
+}
+
+// A label's characters, and zeros after them.
+pub struct Label {
+    pub len: u8,
+    pub bytes: [u8; 16],
+}
+
+pub struct Source {
+    pub plant: Plant,
+    pub label: Label,
+}
+
+// The number on a T line; 0 means "to be placed".
+pub struct InputSequence(pub u32);
+
+// The number that makes a group.
+pub struct InternalSequence(pub u32);
+
+pub struct Delivery {
+    pub sequence: InputSequence,
+    pub kind: u32,
+    pub block: u32,
+    pub mwh: u32,
+    pub label: Label,
+}
+
+pub enum Basis {
+    Low,
+    Generation,
+    Mwh(u32),
+}
+
+// A D line: which source and which delivery it names, from 0.
+pub struct Direct {
+    pub basis: Basis,
+    pub percent: u32,
+    pub source: usize,
+    pub delivery: usize,
+}
+
+// One hour; the entries past each count are blank.
+pub struct Hour {
+    pub losses: u32,
+    pub nsources: usize,
+    pub ndeliveries: usize,
+    pub ndirects: usize,
+    pub sources: [Source; 32],
+    pub deliveries: [Delivery; 32],
+    pub directs: [Direct; 32],
+}
+
+// A source's running state: its plant, open energy v, directly taken d, basic amount b and whether it is set,
+// the percent total so far, and what was charged for d.
+pub struct Running {
+    pub plant: Plant,
+    pub v: u32,
+    pub d: u32,
+    pub b: u32,
+    pub based: bool,
+    pub percent: u32,
+    pub paid: u64,
+}
+
+// Why a call refuses, 1 to 15 in their order, with the line or the internal number that it names.
+pub enum Refusal {
+    TooLong,
+    Form(usize),
+    Range(usize),
+    Full(usize),
+    Used(usize),
+    Levels(usize),
+    Names(usize),
+    OtherBasis(usize),
+    Percents(usize),
+    Overdrawn,
+    Unplaced(usize),
+    NoRoom(InternalSequence),
+    NoHeadroom(InternalSequence),
+    Short,
+    NoDeck,
+}
