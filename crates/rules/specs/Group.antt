@@ -1,6 +1,6 @@
 -- Document 01, "One group".
 use mathlib.Core.Bool.{Bool, true, false, _&&_}
-use mathlib.Core.List.{List, [], _∷_, map}
+use mathlib.Core.List.{List, map}
 use mathlib.Core.Option.{Option, none, some}
 use Prim.Native.Nat.{ℕ, zero, suc, _+_, _-_, _*_, _/_, min, max}
 use lib.Dec.{leb, ltb, eqb}
@@ -9,7 +9,6 @@ use lib.IntN.{ℤ, pos, negℤ}
 use Rattle.rules.specs.Words.{if_then_else_, sumTo}
 use Rattle.rules.specs.Refusals.{Outcome, accepted, refused}
 use Rattle.rules.specs.Units.{cost, generation, normalLow, oilLow, emergencyLow, movable}
-use Rattle.rules.specs.declared.HeatCurve.{HeatCurve}
 use Rattle.rules.specs.declared.Unit.{Unit}
 use Rattle.rules.specs.declared.Plant.{Plant}
 use Rattle.rules.specs.declared.Plant.the-variants.{Unit as U, Purchase as P, Fixed as F}

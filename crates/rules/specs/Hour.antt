@@ -1,18 +1,16 @@
 -- Document 01, "Sequence numbers", "One group" and "Numbers a call may give back": the whole hour and its cells.
-use mathlib.Core.Bool.{Bool, true, false, _&&_}
+use mathlib.Core.Bool.{Bool}
 use mathlib.Core.List.{List, [], _∷_, _++_, map}
 use mathlib.Core.Option.{Option, none, some}
-use Prim.Native.Nat.{ℕ, zero, suc, _+_, _-_, _*_, _/_}
-use lib.Dec.{leb, ltb, eqb}
-use lib.ListN.{getD, set, take}
-use lib.IntN.{ℤ, pos, negℤ}
+use Prim.Native.Nat.{ℕ, zero, suc, _+_, _-_, _*_}
+use lib.Dec.{eqb}
+use lib.ListN.{getD, take}
+use lib.IntN.{ℤ, pos}
 use Rattle.rules.specs.Words.{if_then_else_, sumTo, listTo}
-use Rattle.rules.specs.Refusals.{Outcome, accepted, refused, andThen}
+use Rattle.rules.specs.Refusals.{Outcome, accepted, andThen}
 use Rattle.rules.specs.Sequences.{noDelivery, numbered}
 use Rattle.rules.specs.Group.{noRunning, opened, groupLines, remainder, Amount, signed, Item, directMwh, incrementalMwh, directCost, incrementalCost, amount, upTo, openCost}
-use Rattle.rules.specs.declared.Source.{Source}
 use Rattle.rules.specs.declared.InternalSequence.{InternalSequence}
-use Rattle.rules.specs.declared.Delivery.{Delivery}
 use Rattle.rules.specs.declared.Hour.{Hour}
 use Rattle.rules.specs.declared.Running.{Running}
 

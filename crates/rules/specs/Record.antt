@@ -1,5 +1,5 @@
 -- Document 01, "The deck": the hour record, and the line that each of its entries is.
-use mathlib.Core.Bool.{Bool, true, false}
+use mathlib.Core.Bool.{Bool}
 use mathlib.Core.List.{List, [], _∷_, _++_}
 use Prim.Native.Nat.{ℕ, _+_, _-_}
 use lib.ListN.{length, getD, set, take, replicate}
@@ -11,8 +11,6 @@ use Rattle.rules.specs.Lines.{H, U, P, F, T, D, E, Fields, fieldsOf, Lin
 use Rattle.rules.specs.declared.Label.{Label}
 use Rattle.rules.specs.declared.Plant.{Plant}
 use Rattle.rules.specs.declared.Plant.the-variants.{Unit, Purchase, Fixed}
-use Rattle.rules.specs.declared.Basis.{Basis}
-use Rattle.rules.specs.declared.Basis.the-variants.{Low}
 use Rattle.rules.specs.declared.Source.{Source}
 use Rattle.rules.specs.declared.Delivery.{Delivery}
 use Rattle.rules.specs.declared.Direct.{Direct}

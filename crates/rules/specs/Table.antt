@@ -3,12 +3,12 @@ use mathlib.Core.Bool.{Bool, true, false, not, _&&_}
 use mathlib.Core.List.{List, [], _∷_, _++_}
 use mathlib.Core.Option.{Option, none, some}
 use mathlib.Core.Path.{_≡_, refl}
-use Prim.Native.Nat.{ℕ, zero, suc, _+_, _-_}
+use Prim.Native.Nat.{ℕ, _+_, _-_}
 use Prim.Native.String.{String}
 use lib.Dec.{eqb}
 use lib.ListN.{length, replicate, set}
 use lib.IntN.{ℤ, pos, negsuc, negℤ}
-use Rattle.rules.specs.Words.{if_then_else_, sumTo, listTo, allTo, findTo, sameList, text}
+use Rattle.rules.specs.Words.{sumTo, listTo, allTo, findTo, sameList, text}
 use Rattle.rules.specs.Refusals.{Outcome, accepted, refused, numberOf, placeOf, andThen}
 use Rattle.rules.specs.Units.{curveCost, cost, curveMade, costAsked}
 use Rattle.rules.specs.Sequences.{noLabel, matches, ruleA, ruleB, ruleC, ruleD, ruleE, placed, numbered}
@@ -23,8 +23,8 @@ use Rattle.rules.specs.Calls.{writing, reconstruction, leaves, sourcePar
 use Rattle.rules.specs.Report.{hourLines, reportLines, reportText, reportTexts, report}
 use Rattle.rules.specs.declared.HeatCurve.{HeatCurve}
 use Rattle.rules.specs.declared.Plant.{Plant}
-use Rattle.rules.specs.declared.Plant.the-variants.{Unit, Purchase, Fixed}
-use Rattle.rules.specs.declared.Basis.the-variants.{Low, Mwh}
+use Rattle.rules.specs.declared.Plant.the-variants.{Unit, Fixed}
+use Rattle.rules.specs.declared.Basis.the-variants.{Low}
 use Rattle.rules.specs.declared.Delivery.{Delivery}
 use Rattle.rules.specs.declared.Hour.{Hour}
 
@@ -49,7 +49,7 @@ pub data Case : Type 0 where
   gives : (deck : List ℕ) → (cells : List ℤ) → Case
   prints : (deck report : List ℕ) → Case
   refuses : (deck : List ℕ) → (number place : ℕ) → Case
-  ungiven : (deck : List ℕ) → (Hour → Hour) → Case  -- a deck's hour so changed that no deck gives it
+  ungiven : (deck : List ℕ) → (Hour → Hour) → Case  -- a deck's hour so changed that no deck gives it: 15, before 14
   leavesCells : (deck : List ℕ) → (buffer after : List ℤ) → Case
   leavesBytes : (deck buffer after : List ℕ) → Case
   hasParts : (deck source delivery : List ℕ) → Case  -- the first source's label and the first delivery's
@@ -93,7 +93,7 @@ right (unlabelled a) = isNone (labelEnd (text a))
 right (gives s xs) = accepts (sameCells xs) (andThen (reading s) answer)
 right (prints s t) = sameList (report s) t && writesBack s (reading s)
 right (refuses s number place) = isRefused number place (andThen (reading s) answer) && sameList (report s) (text "refused " ++ (digits number ++ (32 ∷ digits place ++ (10 ∷ []))))
-right (ungiven s change) = accepts (λ h. not (valid (change h))) (reading s)
+right (ungiven s change) = accepts (λ h. isRefused 15 0 (reconstruction (change h) 0) && isRefused 15 0 (writing (change h) 0)) (reading s)
 right (leavesCells s buffer after) = accepts (λ h. sameCells (leaves (reconstruction h (length buffer)) buffer) after) (reading s)
 right (leavesBytes s buffer after) = accepts (λ h. sameList (leaves (writing h (length buffer)) buffer) after) (reading s)
 right (hasParts s x y) = sameList (sourcePart s 0) x && sameList (deliveryPart s 0) y

@@ -1,14 +1,12 @@
 -- Document 01, "The deck" and "Numbers a call may give back", 15: how an hour is written, and which hours some deck gives.
 use mathlib.Core.Bool.{Bool, true, false, _&&_}
-use mathlib.Core.List.{List, [], _∷_, _++_}
+use mathlib.Core.List.{List, [], _∷_}
 use Prim.Native.Nat.{ℕ}
-use Rattle.rules.specs.Words.{if_then_else_, sameList}
+use Rattle.rules.specs.Words.{sameList}
 use Rattle.rules.specs.Refusals.{Outcome, accepted, refused, andThen}
 use Rattle.rules.specs.Lines.{fieldsOf, labelled, Line, lineText}
 use Rattle.rules.specs.Record.{headLine, endLine, body}
 use Rattle.rules.specs.Reading.{feed, headed, finished}
-use Rattle.rules.specs.declared.Label.{Label}
-use Rattle.rules.specs.declared.HeatCurve.{HeatCurve}
 use Rattle.rules.specs.declared.Plant.{Plant}
 use Rattle.rules.specs.declared.Plant.the-variants.{Unit, Purchase, Fixed}
 use Rattle.rules.specs.declared.Basis.{Basis}
