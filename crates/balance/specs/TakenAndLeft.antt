@@ -1,0 +1,41 @@
+-- One source through one group: what the group takes from it, directly and through the remainder, and what is left open make up what was open before.
+-- So of MWh, and so of cost, where open energy is worth W at the level less what was charged for D.
+use mathlib.Core.Path.{_≡_, ap}
+use Prim.Native.Nat.{ℕ, _+_, _-_, _≤_}
+use native.Mathlib.Omega.{arith}
+use lib.IntN.{pos, _+ℤ_}
+use Rattle.laws.specs.Signed.{value, taken-left}
+use Rattle.merit.specs.ChangedFromB.{Starts, changed-over}
+use Rattle.merit.specs.LevelNeverBelowB.{Sound, paid-most, Took, took-value, Moved, moved-sound}
+use Rattle.rules.specs.Group.{level, changed, opened, directMwh, incrementalMwh, directCost, incrementalCost, amount, openCost}
+use Rattle.rules.specs.Units.{cost, generation}
+use Rattle.rules.specs.declared.Plant.{Plant}
+use Rattle.rules.specs.declared.Running.{Running}
+
+abbrev pub worth : Running → ℕ
+worth s = changed s (level s) - s .paid
+
+-- "Open energy left on a source costs W(D + v) - W(D)": its worth
+pub open-worth : (s : Running) → Sound s → openCost s ≡ worth s
+open-worth s g = let e : s .d + s .v ≡ level s = omega arith in omega (arith, g .paid, ap (changed s) e)
+
+-- at first, the cost of the source's generation
+pub opened-worth : (p : Plant) → Starts p → worth (opened p) ≡ cost p (generation p)
+opened-worth p z =
+    let e : level (opened p) ≡ generation p = omega arith in
+    let f : changed (opened p) (level (opened p)) ≡ cost p (level (opened p)) = changed-over (opened p) z (level (opened p)) (omega arith) in
+    omega (arith, ap (cost p) e)
+
+module _ (s t u : Running) (g : Sound s) (k : Took s t) (m : Moved t u) where
+  pub group-mwh : (value (amount directMwh s t u) +ℤ value (amount incrementalMwh s t u)) +ℤ pos (u .v) ≡ pos (s .v)
+  group-mwh =
+      let e : u .d ≡ t .d = ap (λ (x : Running). x .d) (m .is) in
+      taken-left (t .d - s .d) (level t) (level u) (u .v) (s .v) (omega (arith, k .level, k .more))
+
+  pub group-cost : (value (amount directCost s t u) +ℤ value (amount incrementalCost s t u)) +ℤ pos (worth u) ≡ pos (worth s)
+  group-cost =
+      let e : u .paid ≡ t .paid = ap (λ (x : Running). x .paid) (m .is) in
+      let p = paid-most s g in
+      let q = paid-most u (moved-sound t u (k .sound) m) in
+      let v = took-value s t g k in
+      taken-left (t .paid - s .paid) (changed t (level t)) (changed u (level u)) (worth u) (worth s) (omega (arith, k .charged))

@@ -1,0 +1,4 @@
+pub mod Choices
+pub mod Lists
+pub mod Sums
+pub mod Signed

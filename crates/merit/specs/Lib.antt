@@ -1,0 +1,9 @@
+pub mod Best
+pub mod Settled
+pub mod ChangedFromB
+pub mod PricesRise
+pub mod LevelNeverBelowB
+pub mod PlainMoves
+pub mod RemainderMoves
+pub mod PlainIsSettled
+pub mod OneAfterAnother

@@ -1,0 +1,13 @@
+pub mod Numbers
+pub mod Labels
+pub mod Fields
+pub mod Lines
+pub mod Taken
+pub mod Grown
+pub mod SameHour
+pub mod OwnLines
+pub mod AcceptedIsWriting
+pub mod DeckAtMost7018
+pub mod ValidReadsBack
+pub mod DeckRoundTrip
+pub mod Loop
