@@ -1,0 +1,162 @@
+//! Named faults: each a wrong variant of one rule, none by default.
+
+/// The step whose output a fault can change.
+#[derive(Clone, Copy, Debug, PartialEq)]
+pub enum Step {
+    Reading,
+    Reckoning,
+}
+
+macro_rules! faults {
+    ($($step:ident { $($fault:ident $name:literal,)* })*) => {
+        #[derive(Clone, Copy, Debug, PartialEq)]
+        pub enum Fault {
+            None,
+            $($($fault,)*)*
+        }
+
+        pub const ALL: &[(Fault, Step, &str)] = &[
+            $($((Fault::$fault, Step::$step, $name),)*)*
+        ];
+    };
+}
+
+faults! {
+    Reading {
+        LabelsTrimmed "labels-trimmed",
+        LabelsTrimmedInFront "labels-trimmed-in-front",
+        LabelsFolded "labels-folded",
+        LabelsCut "labels-cut-to-shorter",
+        LabelsCutAtEight "labels-cut-at-eight",
+        LabelsOneClass "labels-one-class",
+        LabelLengthInBytes "label-length-in-bytes",
+        AnyEscape "any-escape",
+        DeleteIsCharacter "127-is-a-character",
+        RangeBeforeForm "range-before-form",
+        RangeBeforeOrder "range-before-order",
+        ClassBeforeRange "4-before-3",
+        LabelBeforeClass "5-before-4",
+        LevelsBeforeLabel "6-before-5",
+        BasisBeforeNames "8-before-7",
+        PercentBeforeBasis "9-before-8",
+        LaterLine "later-faulty-line",
+        LeastNumberOfDeck "least-number-of-deck",
+        LinesFromZero "lines-from-zero",
+        MissingLineAtLast "missing-line-at-last",
+        TailIgnored "bytes-after-e-ignored",
+        LastFeedOptional "last-feed-optional",
+        ReturnBeforeFeed "return-before-feed",
+        SpaceBeforeFeed "space-before-feed",
+        LeadingZeros "leading-zeros",
+        LongDigitsAreForm "long-digits-are-2",
+        DigitsWrap "digits-wrap",
+        FullDeckTooLong "8192-bytes-too-long",
+        LevelsStrict "equal-levels-are-6",
+        BasisByValue "basis-by-value",
+        BasisUpToHigh "basis-up-to-high",
+        LetterBelowHigh "letter-below-high",
+        PercentByLine "percent-judged-by-line",
+        PercentByDelivery "percent-judged-by-delivery",
+        PercentOfLastTwo "percent-of-last-two",
+        PercentBelowHundred "percent-100-refused",
+        LossesForgotten "losses-forgotten-in-10",
+        BalanceStrict "10-at-equality",
+        FirmNotGeneration "firm-not-in-10",
+        PlacingBeforeBalance "11-before-10",
+        PlacingByCount "11-by-delivery-count",
+    }
+    Reckoning {
+        PlacedPlaces "placed-places-others",
+        PlacedAlone "placed-alone",
+        EmptyPlacesNone "empty-places-none",
+        StepBeforeTens "step-before-tens",
+        GreatestInA "a-greatest",
+        GreatestInB "b-greatest",
+        LeastInC "c-least",
+        GreatestInD "d-greatest",
+        GreatestInE "e-greatest",
+        AStepsUp "a-steps-up",
+        BStepsUp "b-steps-up",
+        CStepsDown "c-steps-down",
+        DStepsUp "d-steps-up",
+        EStepsUp "e-steps-up",
+        ASkipped "a-skipped",
+        BSkipped "b-skipped",
+        CSkipped "c-skipped",
+        DSkipped "d-skipped",
+        BlocksExchanged "b-c-blocks-exchanged",
+        CBeforeB "c-before-b",
+        BWraps "b-wraps-to-1",
+        CWraps "c-wraps-to-9",
+        GroupsAscend "groups-ascend",
+        GroupsInDeckOrder "groups-in-deck-order",
+        BasicSetAgain "b-set-again",
+        BasicNotCapped "b-not-capped",
+        BasicCappedByGeneration "b-capped-by-g",
+        ZeroTakeSetsNothing "zero-take-sets-nothing",
+        LowIsEmergency "l-is-e",
+        GenerationIsOpen "g-is-v",
+        PercentByLineAlone "percent-by-line-alone",
+        PercentRoundsUp "percent-rounds-up",
+        PercentToNearest "percent-to-nearest",
+        DirectByTop "direct-at-top-cost",
+        DirectByUnchanged "direct-by-w-unchanged",
+        DirectToNamed "direct-to-named",
+        CostNeverChanged "w-never-changed",
+        BelowBasicRoundsUp "w-below-b-rounds-up",
+        BelowStartRoundsUp "w-below-k-rounds-up",
+        CurveBelowStart "curve-below-k",
+        FloorWithoutBasic "floor-without-b",
+        FloorNotLessDirect "floor-not-less-d",
+        FloorLessDirectFirst "floor-less-d-before-low",
+        FloorOfSum "floor-of-sum",
+        LastFloorZero "last-floor-zero",
+        RoomBelowZero "room-below-zero",
+        LoweredFloorsKept "lowered-floors-kept",
+        NormalStrict "normal-equality-short",
+        OilStrict "oil-equality-short",
+        LastStrict "last-equality-short",
+        OilSkipped "oil-skipped",
+        EmergencySkipped "emergency-skipped",
+        LoweringTieLater "lowering-tie-later",
+        CheapestLowered "cheapest-lowered",
+        PricedByOpen "priced-at-v",
+        PricedByAverage "priced-by-average",
+        PricedOneAbove "priced-one-above",
+        EmergencyStepSkipped "emergency-step-skipped",
+        LastRising "last-rising",
+        LastTieLater "last-tie-later",
+        LastInDeckOrder "last-in-deck-order",
+        AverageAtGeneration "average-at-g",
+        AverageAtEmergency "average-at-e",
+        AverageRounded "average-rounded",
+        AverageOfTotal "average-of-total",
+        RaisedBelowEmergency "raised-below-e",
+        RaisedFromStart "raised-from-k",
+        RaisedFromNormal "raised-from-n",
+        RaisedAboveEmergency "raised-above-e-only",
+        EmergencyAgainstOpen "e-against-v",
+        DirectNotRaised "direct-not-raised",
+        CreditToGeneration "credit-to-g",
+        HighAgainstOpen "h-against-v",
+        PurchaseNotRaised "purchase-not-raised",
+        PurchaseUnbounded "purchase-unbounded",
+        RaisedByTop "raised-by-top",
+        RaisingTieEarlier "raising-tie-earlier",
+        HeadroomStrict "headroom-equality-short",
+        SharesAlone "shares-alone",
+        CreditSharesFloor "credit-shares-floored",
+        CostsSplitAsOne "costs-split-as-one",
+        MembersReversed "members-reversed",
+        EmptyTotalLost "empty-total-lost",
+        EmptyTotalToLast "empty-total-to-last",
+        OpenIsRest "open-is-rest",
+        OpenByUnchanged "open-by-w-unchanged",
+        OpenByOpen "open-by-v",
+    }
+}
+
+pub fn named(name: &str) -> Option<(Fault, Step)> {
+    let found = ALL.iter().find(|(_, _, known)| *known == name);
+    found.map(|&(fault, step, _)| (fault, step))
+}

@@ -1,0 +1,95 @@
+//! A second program for the hourly reconstruction: arguments only.
+
+mod checks;
+mod course;
+mod deck;
+mod draw;
+mod faults;
+mod frames;
+mod generate;
+mod group;
+mod hour;
+mod label;
+mod lines;
+mod report;
+mod sequence;
+mod situations;
+mod stats;
+mod telltale;
+mod units;
+mod write;
+
+use std::io::{self, Read, Write};
+use std::process::ExitCode;
+
+fn batch(name: &str, answer: fn(&[u8]) -> Vec<u8>) -> io::Result<bool> {
+    let mut output = io::BufWriter::new(io::stdout().lock());
+    let whole = frames::answer_all(&mut io::stdin().lock(), &mut output, name, answer)?;
+    output.flush()?;
+    Ok(whole)
+}
+
+fn right_report(deck: &[u8]) -> Vec<u8> {
+    report::report(deck, faults::Fault::None)
+}
+
+fn one_report() -> io::Result<bool> {
+    let mut deck = Vec::new();
+    let most = hour::MOST_BYTES as u64 + 1;
+    io::stdin().lock().take(most).read_to_end(&mut deck)?;
+    io::stdout().write_all(&right_report(&deck))?;
+    Ok(true)
+}
+
+fn generate(seed: u64, count: u64) -> io::Result<bool> {
+    let mut output = io::BufWriter::new(io::stdout().lock());
+    for index in 0..count {
+        frames::put(&mut output, "deck", &generate::deck(seed, index).deck)?;
+    }
+    output.flush()?;
+    Ok(true)
+}
+
+/// The two numbers of `generate`, where both are numbers.
+fn with_numbers(
+    seed: &str,
+    count: &str,
+    command: fn(u64, u64) -> io::Result<bool>,
+) -> io::Result<bool> {
+    match (seed.parse(), count.parse()) {
+        (Ok(seed), Ok(count)) => command(seed, count),
+        _ => Ok(false),
+    }
+}
+
+const USAGE: &str = "second report | batch | rewrite | cells | test\n\
+                     second generate [--stats] SEED COUNT\nsecond telltale FAULT";
+
+fn run(words: &[&str]) -> io::Result<bool> {
+    match words {
+        ["report"] => one_report(),
+        ["batch"] => batch("report", right_report),
+        ["rewrite"] => batch("rewritten", report::rewritten),
+        ["cells"] => batch("cells", report::cells_text),
+        ["test"] => checks::run(),
+        ["telltale", name] => telltale::print(name),
+        ["generate", "--stats", seed, count] => with_numbers(seed, count, stats::stats),
+        ["generate", seed, count] => with_numbers(seed, count, generate),
+        _ => {
+            eprintln!("{USAGE}");
+            Ok(false)
+        }
+    }
+}
+
+fn main() -> ExitCode {
+    let words: Vec<_> = std::env::args_os().skip(1).collect();
+    let words: Vec<&str> = words
+        .iter()
+        .map(|word| word.to_str().unwrap_or(""))
+        .collect();
+    match run(&words) {
+        Ok(true) => ExitCode::SUCCESS,
+        _ => ExitCode::FAILURE,
+    }
+}
