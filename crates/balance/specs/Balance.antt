@@ -1,17 +1,17 @@
 -- Every answer balances. For each source, the signed MWh that deliveries get from it and its open MWh make up its generation; the signed costs and
 -- the open cost make up W(g), the cost of its generation as it was before any direct allocation. Said of the answer's cells.
 use mathlib.Core.List.{List}
-use mathlib.Core.Path.{_≡_, refl, sym, ap, _∙_}
-use Prim.Native.Nat.{ℕ, _+_, _*_, _<_}
+use mathlib.Core.Path.{_≡_, refl, _∙_}
+use Prim.Native.Nat.{ℕ, _+_, _<_}
 use native.Mathlib.Omega.{arith}
 use lib.IntN.{ℤ, pos, _+ℤ_}
 use lib.ListN.{getD}
 use Rattle.balance.specs.AnswerCells.{cellAt, pairPlace, openPlace, pair-at, open-at, answer-cells}
 use Rattle.balance.specs.HourBalances.{plantAt, Given, Balanced, groups-balanced}
-use Rattle.balance.specs.TakenAndLeft.{worth, open-worth}
+use Rattle.balance.specs.TakenAndLeft.{open-worth}
 use Rattle.laws.specs.Signed.{sumℤ, sumℤ-same}
 use Rattle.merit.specs.LevelNeverBelowB.{stateAt}
-use Rattle.rules.specs.Group.{Item, directMwh, incrementalMwh, directCost, incrementalCost, openCost}
+use Rattle.rules.specs.Group.{Item, directMwh, incrementalMwh, directCost, incrementalCost}
 use Rattle.rules.specs.Hour.{numbers, Progress, reconstructed, pairCells, cellsOf, answer}
 use Rattle.rules.specs.Refusals.{accepted}
 use Rattle.rules.specs.Units.{cost, generation}

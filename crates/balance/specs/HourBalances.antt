@@ -1,30 +1,30 @@
 -- The balance while the hour runs: after each group, for each source, what deliveries were given and what is still open make up its generation and its cost.
-use mathlib.Core.Bool.{Bool, true, false, _&&_}
+use mathlib.Core.Bool.{Bool, true, false}
 use mathlib.Core.List.{List, map}
 use mathlib.Core.Logic.{_⊎_, inl, inr}
 use mathlib.Core.Path.{_≡_, refl, sym, ap, _∙_}
 use Prim.Native.Nat.{ℕ, zero, suc, _+_, _-_, _≤_, _<_}
 use native.Mathlib.Decide.{decLt}
 use native.Mathlib.Omega.{arith}
-use borrow.Author.Tests.{ltb-true, ne-eqb, eqb-true, eqb-false, lt-ltb, le-ltb}
+use borrow.Author.Tests.{ne-eqb, eqb-true, eqb-false, lt-ltb, le-ltb}
 use lib.Dec.{ltb, eqb}
-use lib.IntN.{ℤ, pos, _+ℤ_, +ℤ-idl, +ℤ-idr}
+use lib.IntN.{pos, _+ℤ_, +ℤ-idl, +ℤ-idr}
 use lib.ListN.{getD, List·getD-map}
 use Rattle.balance.specs.SharesMakeUpTheAmount.{shares-sum, share-none}
-use Rattle.balance.specs.TakenAndLeft.{worth, open-worth, opened-worth, group-mwh, group-cost}
+use Rattle.balance.specs.TakenAndLeft.{worth, opened-worth, group-mwh, group-cost}
 use Rattle.laws.specs.Choices.{accepted-same, Both, then-passed}
 use Rattle.laws.specs.Signed.{value, sumℤ, sumℤ-zero, sumℤ-carried}
 use Rattle.laws.specs.Sums.{sumTo-most, sumTo-add}
 use Rattle.merit.specs.ChangedFromB.{Starts}
 use Rattle.merit.specs.LevelNeverBelowB.{Sound, opened-sound, stateAt, percentOf, percents, Directed, groupLines-directed, Moved, moved-sound}
-use Rattle.merit.specs.RemainderMoves.{shift-moved, Remaindered, remainder-moves}
-use Rattle.rules.specs.Group.{noDirect, opened, groupLines, remainder, Amount, Item, directMwh, incrementalMwh, directCost, incrementalCost, amount, openCost}
+use Rattle.merit.specs.RemainderMoves.{shift-moved, remainder-moves}
+use Rattle.rules.specs.Group.{noDirect, opened, groupLines, remainder, Amount, Item, directMwh, incrementalMwh, directCost, incrementalCost, amount}
 use Rattle.rules.specs.Hour.{internalAt, member, scheduled, counted, share, Cells, Progress, shared, tookAll, rest, group, groups}
 use Rattle.rules.specs.Reading.{percentsOf}
 use Rattle.rules.specs.Record.{noSource, sourceAt}
-use Rattle.rules.specs.Refusals.{Outcome, accepted, refused, andThen}
+use Rattle.rules.specs.Refusals.{Outcome, accepted, andThen}
 use Rattle.rules.specs.Units.{cost, generation}
-use Rattle.rules.specs.Words.{if_then_else_, sumTo}
+use Rattle.rules.specs.Words.{if_then_else_}
 use Rattle.rules.specs.declared.Direct.{Direct}
 use Rattle.rules.specs.declared.Hour.{Hour}
 use Rattle.rules.specs.declared.InternalSequence.{InternalSequence}
@@ -53,7 +53,7 @@ module _ (h : Hour) (ns : List InternalSequence) where
     pub done : remainder (record { 0 = x }) (h .nsources) (scheduled h ns x (h .ndeliveries)) (tookAll (h .nsources) (p .states) (afterLines x p)) (afterLines x p) ≡ accepted us
     pub is : q ≡ record { states = us; cells = shared h ns x (p .states) (afterLines x p) us (p .cells) }
 
-  pub group-passed : (x : ℕ) (p q : Progress) → group h ns x p ≡ accepted q → (q ≡ p) ⊎ Grouped x p q
+  pub group-passed : (x : ℕ) (p q : Progress) → group h ns x p ≡ accepted q → ((counted ns x (h .ndeliveries) ≡ 0) × (q ≡ p)) ⊎ Grouped x p q
   unfolding group rest
   group-passed x p q e = go (eqb (counted ns x (h .ndeliveries)) 0) refl e
     where
@@ -63,15 +63,36 @@ module _ (h : Hour) (ns : List InternalSequence) where
       done : Outcome (List Running)
       done = remainder (record { 0 = x }) (h .nsources) (scheduled h ns x (h .ndeliveries)) (tookAll (h .nsources) (p .states) (afterLines x p)) (afterLines x p)
 
-      go : (y : Bool) → eqb (counted ns x (h .ndeliveries)) 0 ≡ y → (if y then accepted p else andThen done after) ≡ accepted q → (q ≡ p) ⊎ Grouped x p q
-      go true z a = inl (sym (accepted-same p q a))
+      go : (y : Bool) → eqb (counted ns x (h .ndeliveries)) 0 ≡ y → (if y then accepted p else andThen done after) ≡ accepted q → ((counted ns x (h .ndeliveries) ≡ 0) × (q ≡ p)) ⊎ Grouped x p q
+      go true z a = inl (eqb-true (counted ns x (h .ndeliveries)) 0 z, sym (accepted-same p q a))
       go false z a =
           let b : Both done after q = then-passed done after q a in
           let f = eqb-false (counted ns x (h .ndeliveries)) 0 z in
           inr (record { members = omega arith; us = b .mid; done = b .first; is = sym (accepted-same _ q (b .second)) })
 
+  -- the hour's start, and what each group keeps
+  abbrev pub started : Progress
+  started = record { states = map (λ s. opened (s .plant)) (h .sources); cells = λ j i item. pos 0 }
+
+  pub started-at : (i : ℕ) → stateAt (started .states) i ≡ opened (plantAt h i)
+  started-at i = List·getD-map (λ (s : Source). opened (s .plant)) (h .sources) i noSource
+
+  pub groups-keep : (P : ℕ → Progress → Type 0) → P 1000 started → ((x : ℕ) (p : Progress) → counted ns x (h .ndeliveries) ≡ 0 → P (suc x) p → P x p) → ((x : ℕ) (p q : Progress) → P (suc x) p → Grouped x p q → P x q) →
+      (k : ℕ) → k ≤ 1000 → (p : Progress) → groups h ns k ≡ accepted p → P (1000 - k) p
+  unfolding groups
+  groups-keep P start skip turn zero l p e = rw (← accepted-same started p e) start
+  groups-keep P start skip turn (suc k) l q e =
+      let b : Both (groups h ns k) (group h ns (999 - k)) q = then-passed (groups h ns k) (group h ns (999 - k)) q e in
+      let up : 1000 - k ≡ suc (999 - k) = omega arith in
+      let down : 1000 - suc k ≡ 999 - k = omega arith in
+      let c : P (suc (999 - k)) (b .mid) = rw up at (groups-keep P start skip turn k (omega arith) (b .mid) (b .first)) in
+      rw down (elim (group-passed (999 - k) (b .mid) q (b .second)) [
+        | inl same ↦ rw (same .1) (skip (999 - k) (b .mid) (same .0) c)
+        | inr step ↦ turn (999 - k) (b .mid) q c step
+      ])
+
   -- its shares are added to the cells, where its members had nothing
-  shared-adds : (x : ℕ) (ss ts us : List Running) (cell : Cells) (j i : ℕ) (item : Item) → (member ns x j ≡ true → cell j i item ≡ pos 0) →
+  pub shared-adds : (x : ℕ) (ss ts us : List Running) (cell : Cells) (j i : ℕ) (item : Item) → (member ns x j ≡ true → cell j i item ≡ pos 0) →
       shared h ns x ss ts us cell j i item ≡ cell j i item +ℤ share h ns x (amount item (stateAt ss i) (stateAt ts i) (stateAt us i)) j
   unfolding shared
   shared-adds x ss ts us cell j i item f = go (member ns x j) refl
@@ -83,8 +104,14 @@ module _ (h : Hour) (ns : List InternalSequence) where
       go true e = sym (rw (f e) (+ℤ-idl _))
       go false e = sym (rw (share-none h ns x a j e) (+ℤ-idr (cell j i item)))
 
+  -- its members have their shares
+  pub shared-members : (x : ℕ) (ss ts us : List Running) (cell : Cells) (j i : ℕ) (item : Item) → member ns x j ≡ true →
+      shared h ns x ss ts us cell j i item ≡ share h ns x (amount item (stateAt ss i) (stateAt ts i) (stateAt us i)) j
+  unfolding shared
+  shared-members x ss ts us cell j i item e = rw e
+
   -- and the others' cells are kept
-  shared-keeps : (x : ℕ) (ss ts us : List Running) (cell : Cells) (j i : ℕ) (item : Item) → (internalAt ns j ≡ x → ⊥) → shared h ns x ss ts us cell j i item ≡ cell j i item
+  pub shared-keeps : (x : ℕ) (ss ts us : List Running) (cell : Cells) (j i : ℕ) (item : Item) → (internalAt ns j ≡ x → ⊥) → shared h ns x ss ts us cell j i item ≡ cell j i item
   unfolding shared
   shared-keeps x ss ts us cell j i item f = rw (ne-eqb (internalAt ns j) x f)
 
@@ -126,7 +153,7 @@ module _ (h : Hour) (ns : List InternalSequence) where
   lines-directed x p b i = groupLines-directed (member ns x) (h .directs) (p .states) i (b .sound i) (h .ndirects) (omega (arith, lines-left x i (h .ndirects), b .percent i))
 
   -- a group with members
-  grouped-balanced : (x : ℕ) (p q : Progress) → Balanced (suc x) p → Grouped x p q → Balanced x q
+  pub grouped-balanced : (x : ℕ) (p q : Progress) → Balanced (suc x) p → Grouped x p q → Balanced x q
   grouped-balanced x p q b g =
       rw (g .is)
       (record {
@@ -170,7 +197,7 @@ module _ (h : Hour) (ns : List InternalSequence) where
           (shares-sum h ns x (part i v) (g .members)) (shares-sum h ns x (part i w) (g .members)) y z
 
   -- a number that no delivery has
-  none-balanced : (x : ℕ) (p : Progress) → Balanced (suc x) p → Balanced x p
+  pub none-balanced : (x : ℕ) (p : Progress) → Balanced (suc x) p → Balanced x p
   none-balanced x p b =
       record {
         sound = b .sound;
@@ -181,18 +208,15 @@ module _ (h : Hour) (ns : List InternalSequence) where
         grains = b .grains;
       }
 
-  opened-at : (i : ℕ) → stateAt (map (λ s. opened (s .plant)) (h .sources)) i ≡ opened (plantAt h i)
-  opened-at i = List·getD-map (λ (s : Source). opened (s .plant)) (h .sources) i noSource
-
-  start-balanced : Given h → Balanced 1000 (record { states = map (λ s. opened (s .plant)) (h .sources); cells = λ j i item. pos 0 })
+  pub start-balanced : Given h → Balanced 1000 started
   start-balanced g =
       record {
-        sound = λ i. rw (opened-at i) (opened-sound (plantAt h i) (g .starts i));
-        plant = λ i. ap (λ (y : Running). y .plant) (opened-at i);
-        percent = λ i. let e = ap (λ (y : Running). y .percent) (opened-at i) in omega (arith, e, g .percents i, fewer i);
+        sound = λ i. rw (started-at i) (opened-sound (plantAt h i) (g .starts i));
+        plant = λ i. ap (λ (y : Running). y .plant) (started-at i);
+        percent = λ i. let e = ap (λ (y : Running). y .percent) (started-at i) in omega (arith, e, g .percents i, fewer i);
         untouched = λ j i item y. refl;
-        mwh = λ i. rw (opened-at i, sumℤ-zero (h .ndeliveries)) (+ℤ-idl (pos (generation (plantAt h i))));
-        grains = λ i. rw (opened-at i, sumℤ-zero (h .ndeliveries), opened-worth (plantAt h i) (g .starts i)) (+ℤ-idl (pos (cost (plantAt h i) (generation (plantAt h i)))));
+        mwh = λ i. rw (started-at i, sumℤ-zero (h .ndeliveries)) (+ℤ-idl (pos (generation (plantAt h i))));
+        grains = λ i. rw (started-at i, sumℤ-zero (h .ndeliveries), opened-worth (plantAt h i) (g .starts i)) (+ℤ-idl (pos (cost (plantAt h i) (generation (plantAt h i)))));
       }
     where
       put : (a : Bool) (line : Direct) (i : ℕ) → percentOf a line i ≤ percentOf true line i
@@ -206,14 +230,4 @@ module _ (h : Hour) (ns : List InternalSequence) where
           (λ q l. put (below 1000 (getD (h .directs) q noDirect .delivery)) (getD (h .directs) q noDirect) i)
 
   pub groups-balanced : Given h → (k : ℕ) → k ≤ 1000 → (p : Progress) → groups h ns k ≡ accepted p → Balanced (1000 - k) p
-  unfolding groups
-  groups-balanced g zero l p e = rw (← accepted-same _ p e) (start-balanced g)
-  groups-balanced g (suc k) l q e =
-      let b : Both (groups h ns k) (group h ns (999 - k)) q = then-passed (groups h ns k) (group h ns (999 - k)) q e in
-      let up : 1000 - k ≡ suc (999 - k) = omega arith in
-      let down : 1000 - suc k ≡ 999 - k = omega arith in
-      let c : Balanced (suc (999 - k)) (b .mid) = rw up at (groups-balanced g k (omega arith) (b .mid) (b .first)) in
-      rw down (elim (group-passed (999 - k) (b .mid) q (b .second)) [
-        | inl same ↦ rw same (none-balanced (999 - k) (b .mid) c)
-        | inr step ↦ grouped-balanced (999 - k) (b .mid) q c step
-      ])
+  groups-balanced g = groups-keep Balanced (start-balanced g) (λ x p z. none-balanced x p) grouped-balanced

@@ -6,3 +6,4 @@ pub mod NumbersBelow1000
 pub mod AnswerCells
 pub mod HourBalances
 pub mod Balance
+pub mod CellsFit

@@ -2,13 +2,13 @@
 -- No share is greater than the amount.
 use mathlib.Core.Bool.{Bool, true, false}
 use mathlib.Core.List.{List}
-use mathlib.Core.Path.{_≡_, refl, sym, ap, _∙_}
+use mathlib.Core.Path.{_≡_, refl, ap, _∙_}
 use Prim.Native.Nat.{ℕ, zero, suc, _+_, _-_, _*_, _/_, _≤_, _<_}
-use native.Mathlib.Nat.{le-trans, mul-div-cancel, mul-le-mul-left, mul-zero, zero-div}
+use native.Mathlib.Nat.{mul-div-cancel, mul-le-mul-left, mul-zero, zero-div}
 use native.Mathlib.Omega.{arith}
 use borrow.Author.Tests.{ne-eqb}
 use lib.Dec.{eqb}
-use lib.IntN.{ℤ, pos, negℤ, _+ℤ_}
+use lib.IntN.{pos}
 use lib.ListN.{getD}
 use Rattle.laws.specs.Signed.{value, sumℤ, signed-zero, sumℤ-increases}
 use Rattle.laws.specs.Sums.{sumTo-grows, sumTo-longer, div-grows, part-most}

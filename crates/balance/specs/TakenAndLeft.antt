@@ -1,7 +1,7 @@
 -- One source through one group: what the group takes from it, directly and through the remainder, and what is left open make up what was open before.
 -- So of MWh, and so of cost, where open energy is worth W at the level less what was charged for D.
 use mathlib.Core.Path.{_≡_, ap}
-use Prim.Native.Nat.{ℕ, _+_, _-_, _≤_}
+use Prim.Native.Nat.{ℕ, _+_, _-_}
 use native.Mathlib.Omega.{arith}
 use lib.IntN.{pos, _+ℤ_}
 use Rattle.laws.specs.Signed.{value, taken-left}

@@ -77,12 +77,12 @@ got-passed true x v n e = (refl, e)
 got-passed false x v n e = malformed-not-got v n e
 
 -- what is got after another was got after that one
-pub record Fields {A B : Type 0} (x : Field A) (after : A → ℕ → Field B) (b : B) (n : ℕ) : Type 0 where
+pub record BothGot {A B : Type 0} (x : Field A) (after : A → ℕ → Field B) (b : B) (n : ℕ) : Type 0 where
   pub mid : A
   pub place : ℕ
   pub first : x ≡ got mid place
   pub second : after mid place ≡ got b n
 
-pub field-passed : {A B : Type 0} (x : Field A) (after : A → ℕ → Field B) (b : B) (n : ℕ) → onField x after ≡ got b n → Fields x after b n
+pub field-passed : {A B : Type 0} (x : Field A) (after : A → ℕ → Field B) (b : B) (n : ℕ) → onField x after ≡ got b n → BothGot x after b n
 field-passed (got a m) after b n e = record { mid = a; place = m; first = refl; second = e }
 field-passed malformed after b n e = malformed-not-got b n e

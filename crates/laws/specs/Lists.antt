@@ -11,7 +11,8 @@ use lib.Dec.{eqb}
 use lib.ListN.{length, getD, set, drop}
 use lib.Seq.{drop-drop, drop-append-seam, getD-drop, getD-set-same, getD-set-other}
 use borrow.Author.Tests.{eqb-true, eq-eqb}
-use Rattle.rules.specs.Words.{if_then_else_, listTo, _otherwise_, findTo, sameList}
+use Rattle.rules.specs.Words.{if_then_else_, sumTo, listTo, _otherwise_, findTo, sameList}
+use Rattle.laws.specs.Sums.{below-suc, sumTo-same, sumTo-more}
 use Rattle.laws.specs.Choices.{false-not-true, both-true, none-not-some}
 
 -- What stands at a place.
@@ -59,11 +60,19 @@ module _ {A : Type 0} where
   listTo-more f n = rw add-one
 
   -- of a list with its element n set
-  pub listTo-set : {B : Type 0} (f : B → List A) (xs : List B) (d x : B) (n : ℕ) → n < length xs → listTo (λ i. f (getD (set xs n x) i d)) (n + 1) ≡ listTo (λ i. f (getD xs i d)) n ++ f x
+  pub listTo-set : {B : Type 0} (f : B → List A) (xs : List B) (d x : B) (n : ℕ) → n < length xs
+      → listTo (λ i. f (getD (set xs n x) i d)) (n + 1) ≡ listTo (λ i. f (getD xs i d)) n ++ f x
   listTo-set f xs d x n h =
       listTo-more (λ i. f (getD (set xs n x) i d)) n
       ∙ ap (λ l. l ++ f (getD (set xs n x) n d)) (listTo-same (λ i. f (getD (set xs n x) i d)) (λ i. f (getD xs i d)) n (λ i l. ap f (getD-set-other xs n i x d (λ e. omega arith))))
       ∙ ap (λ y. listTo (λ i. f (getD xs i d)) n ++ f y) (getD-set-same xs n x d h)
+
+pub sumTo-set : {B : Type 0} (f : B → ℕ) (xs : List B) (d x : B) (n : ℕ) → n < length xs
+    → sumTo (λ i. f (getD (set xs n x) i d)) (n + 1) ≡ sumTo (λ i. f (getD xs i d)) n + f x
+sumTo-set f xs d x n h =
+    sym (sumTo-more (λ i. f (getD (set xs n x) i d)) n (sumTo (λ i. f (getD xs i d)) n) (f x)
+    (sumTo-same n (λ i. f (getD xs i d)) (λ i. f (getD (set xs n x) i d)) (λ i l. ap f (sym (getD-set-other xs n i x d (λ e. omega arith)))))
+    (ap f (sym (getD-set-same xs n x d h))))
 
 -- Tests and finds up to a number.
 
@@ -72,7 +81,19 @@ unfolding findTo
 findTo-passes p zero i e = none-not-some i e
 findTo-passes p (suc n) i e = go (findTo p n) refl (p n) refl e (findTo-passes p n i)
   where
-    go : (x : Option ℕ) → findTo p n ≡ x → (b : Bool) → p n ≡ b → (x otherwise (if b then some n else none)) ≡ some i → (findTo p n ≡ some i → (i < n) × (p i ≡ true)) → (i < suc n) × (p i ≡ true)
+    go : (x : Option ℕ) → findTo p n ≡ x → (b : Bool) → p n ≡ b → (x otherwise (if b then some n else none)) ≡ some i
+        → (findTo p n ≡ some i → (i < n) × (p i ≡ true)) → (i < suc n) × (p i ≡ true)
     go (some j) xe b be e ih = let k = ih (xe ∙ e) in (omega arith, k .1)
     go none xe true be e ih = let k : n ≡ i = cc in (omega arith, ap p (sym k) ∙ be)
     go none xe false be e ih = none-not-some i e
+
+pub findTo-none : (p : ℕ → Bool) (n : ℕ) → findTo p n ≡ none → (i : ℕ) → i < n → p i ≡ false
+unfolding findTo
+findTo-none p zero e i lt = absurd (omega arith)
+findTo-none p (suc n) e i lt = go (findTo p n) refl (p n) refl e (findTo-none p n) i lt
+  where
+    go : (x : Option ℕ) → findTo p n ≡ x → (b : Bool) → p n ≡ b → (x otherwise (if b then some n else none)) ≡ none
+        → (findTo p n ≡ none → (i : ℕ) → i < n → p i ≡ false) → (i : ℕ) → i < suc n → p i ≡ false
+    go (some j) xe b be e ih = none-not-some j (sym e)
+    go none xe true be e ih = none-not-some n (sym e)
+    go none xe false be e ih = below-suc (λ i. p i ≡ false) n (ih xe) be

@@ -5,7 +5,6 @@ use Prim.Native.Nat.{ℕ, zero, suc, _+_, _-_, _≤_, _<_}
 use native.Mathlib.Decide.{decLt}
 use native.Mathlib.Omega.{arith}
 use borrow.Author.Tests.{lt-ltb, le-ltb}
-use lib.Dec.{ltb}
 use lib.IntN.{ℤ, pos, negℤ, _+ℤ_, +ℤ-assoc, +ℤ-comm, pos-+ℤ-pos, negℤ-+ℤ, +ℤ-negℤ-cancel}
 use Rattle.rules.specs.Group.{Amount, less, signed}
 use Rattle.rules.specs.Words.{sumTo}

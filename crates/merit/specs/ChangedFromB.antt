@@ -1,7 +1,7 @@
 -- W as changed is W from b up; W grows with the level, and W as changed up to b.
 use mathlib.Core.Bool.{Bool, true, false, _&&_}
-use mathlib.Core.Path.{_≡_, refl, sym, ap, _∙_}
-use Prim.Native.Nat.{ℕ, zero, suc, _+_, _-_, _*_, _/_, _≤_, _<_}
+use mathlib.Core.Path.{_≡_, refl}
+use Prim.Native.Nat.{ℕ, zero, suc, _+_, _-_, _*_, _/_, _≤_}
 use native.Mathlib.Decide.{decLe}
 use native.Mathlib.Nat.{div-zero, le-trans, mul-div-cancel, mul-le-mul, mul-le-mul-left, mul-le-mul-right, mul-zero, zero-div}
 use native.Mathlib.Omega.{arith}

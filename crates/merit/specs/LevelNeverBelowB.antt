@@ -3,7 +3,7 @@
 use mathlib.Core.Bool.{Bool, true, false, _&&_}
 use mathlib.Core.List.{List}
 use mathlib.Core.Path.{_≡_, refl, sym, ap, _∙_}
-use Prim.Native.Nat.{ℕ, zero, suc, _+_, _-_, _*_, _/_, _≤_, _<_, min, max}
+use Prim.Native.Nat.{ℕ, zero, suc, _+_, _-_, _*_, _/_, _≤_, min, max}
 use native.Mathlib.Decide.{decLt, ℕ-discrete}
 use native.Mathlib.Nat.{le-trans, mul-le-mul-left, mul-zero}
 use native.Mathlib.Omega.{arith}
@@ -63,10 +63,11 @@ pub record Took (s t : Running) : Type 0 where
   pub level : level t ≡ level s
   pub more : s .d ≤ t .d
   pub charged : s .paid ≤ t .paid
+  pub basic : t .b ≤ max (s .b) (s .v)
   pub sound : Sound t
 
 pub took-none : (s : Running) → Sound s → Took s s
-took-none s g = record { plant = refl; level = refl; more = omega arith; charged = omega arith; sound = g }
+took-none s g = record { plant = refl; level = refl; more = omega arith; charged = omega arith; basic = omega arith; sound = g }
 
 pub took-then : (s t u : Running) → Took s t → Took t u → Took s u
 took-then s t u a b =
@@ -75,6 +76,7 @@ took-then s t u a b =
       level = b .level ∙ a .level;
       more = le-trans (a .more) (b .more);
       charged = le-trans (a .charged) (b .charged);
+      basic = omega (arith, a .basic, b .basic, a .level, a .more);
       sound = b .sound;
     }
 
@@ -99,6 +101,7 @@ renewed-took s p g e l h =
       level = omega arith;
       more = omega arith;
       charged = omega arith;
+      basic = omega arith;
       sound = record { starts = g .starts; above = omega arith; share = refl; part = c; paid = q; unset = λ z. true-not-false (sym e ∙ z) };
     }
 
@@ -117,6 +120,7 @@ based-took false p v d b c x y g =
       level = refl;
       more = omega arith;
       charged = omega arith;
+      basic = omega arith;
       sound = record {
         starts = g .starts;
         above = omega arith;

@@ -7,3 +7,4 @@ pub mod PlainMoves
 pub mod RemainderMoves
 pub mod PlainIsSettled
 pub mod OneAfterAnother
+pub mod NumbersStaySmall

@@ -15,7 +15,6 @@ use lib.Seq.{getD-set-same, getD-set-other, set-set, set-getD}
 use Rattle.merit.specs.LevelNeverBelowB.{stateAt}
 use Rattle.merit.specs.PlainMoves.{next-roomy, Found, Roomy, Stepwise, roomy-there, last-stepwise}
 use Rattle.rules.specs.Group.{noRunning, changed, Way, better, next, move, plain, lastStep}
-use Rattle.rules.specs.Words.{if_then_else_}
 use Rattle.rules.specs.declared.Running.{Running}
 
 -- r steps and then q more

@@ -2,26 +2,25 @@
 -- them goes before each that is left, they are what the rule has moved. One statement for every way; at closed prices it serves the rungs and credit.
 use mathlib.Core.Bool.{Bool, true, false, _&&_}
 use mathlib.Core.List.{List}
-use mathlib.Core.Logic.{_⊎_, inl, inr, _≢_}
+use mathlib.Core.Logic.{inl, inr}
 use mathlib.Core.Option.{Option, none, some}
 use mathlib.Core.Path.{_≡_, refl, sym, ap, _∙_}
-use Prim.Native.Nat.{ℕ, zero, suc, _+_, _-_, _≤_, _<_, max}
+use Prim.Native.Nat.{ℕ, zero, suc, _+_, _-_, _≤_, _<_}
 use native.Mathlib.Decide.{decLt}
 use native.Mathlib.Nat.{le-trans}
 use native.Mathlib.Omega.{arith}
 use borrow.Author.Tests.{ltb-true, ltb-false, leb-true, leb-false}
-use lib.Dec.{leb, ltb}
-use lib.ListN.{length, getD, length-set}
+use lib.Dec.{leb}
+use lib.ListN.{length}
 use lib.Seq.{ext-getD}
 use Rattle.laws.specs.Choices.{both-true}
 use Rattle.laws.specs.Sums.{sumTo-most}
 use Rattle.merit.specs.Best.{Best}
-use Rattle.merit.specs.ChangedFromB.{Starts}
-use Rattle.merit.specs.LevelNeverBelowB.{Sound, stateAt, Moved, moved-sound, lowered-moved, raised-moved}
+use Rattle.merit.specs.LevelNeverBelowB.{Sound, stateAt}
 use Rattle.merit.specs.PlainMoves.{plain-beyond, plain-length, Found, next-found, Stepwise, Tracks, bumped, movedBy, tracks-room, plain-tracks, movedBy-sum, unloading-stepwise, crediting-stepwise}
 use Rattle.merit.specs.PricesRise.{price, curveStart, price-rises, changed-step, changed-top}
 use Rattle.merit.specs.Settled.{Strict, less, more, less-strict, more-strict, Beats, beats-trans, BestUnit, bump, bump-same, bump-other, Plain, Falling, Settled, settled-one, plain-settled, plain-key}
-use Rattle.rules.specs.Group.{noRunning, level, floor, Rung, normal, oil, emergency, last, room, headroom, headroomOf, top, following, lowered, raised, Way, next, move, plain, unloading, crediting, all}
+use Rattle.rules.specs.Group.{noRunning, level, floor, Rung, normal, oil, emergency, last, room, headroom, headroomOf, top, following, lowered, raised, Way, next, plain, unloading, crediting, all}
 use Rattle.rules.specs.Units.{levelled, emergencyLow, oilLow, normalLow, movable}
 use Rattle.rules.specs.Words.{if_then_else_, sumTo}
 use Rattle.rules.specs.declared.Plant.{Plant}

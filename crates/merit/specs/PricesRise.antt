@@ -1,6 +1,6 @@
 -- From the curve's start up W rises by a price that never falls with the level: W(m) - W(m-1) <= W(m+1) - W(m).
 -- So does W as changed, from the curve's start and b up. The price has a closed form, (2B + C(2m - 1))·R.
-use mathlib.Core.Path.{_≡_, refl, sym, ap, _∙_}
+use mathlib.Core.Path.{_≡_, refl}
 use Prim.Native.Nat.{ℕ, _+_, _-_, _*_, _≤_, _<_, max}
 use native.Mathlib.Nat.{mul-le-mul-left, mul-le-mul-right}
 use native.Mathlib.Omega.{arith}

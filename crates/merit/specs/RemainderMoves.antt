@@ -3,7 +3,7 @@
 use mathlib.Core.Bool.{Bool, true, false}
 use mathlib.Core.List.{List}
 use mathlib.Core.Path.{_≡_, refl, sym, ap, _∙_}
-use Prim.Native.Nat.{ℕ, _+_, _-_, _≤_, _<_, max}
+use Prim.Native.Nat.{ℕ, _+_, _-_, _≤_, _<_}
 use native.Mathlib.Omega.{arith}
 use borrow.Author.Tests.{leb-true, leb-false}
 use lib.Dec.{leb}
@@ -11,8 +11,8 @@ use lib.ListN.{List·getD-map}
 use Rattle.laws.specs.Choices.{refused-not-accepted, accepted-same}
 use Rattle.laws.specs.Sums.{sumTo-add, sumTo-most}
 use Rattle.merit.specs.LevelNeverBelowB.{Sound, stateAt, Moved, lowered-moved, raised-moved}
-use Rattle.merit.specs.PlainMoves.{Stepwise, Tracks, movedBy, plain-tracks, movedBy-sum, lowered-room, unloading-stepwise, last-stepwise, crediting-stepwise}
-use Rattle.rules.specs.Group.{noRunning, floor, Rung, normal, oil, emergency, last, room, headroom, withOpen, lowered, raised, Way, plain, unloading, lastStep, crediting, all, toEmergency, unload, credit, remainder}
+use Rattle.merit.specs.PlainMoves.{Tracks, movedBy, plain-tracks, movedBy-sum, lowered-room, unloading-stepwise, last-stepwise, crediting-stepwise}
+use Rattle.rules.specs.Group.{noRunning, floor, Rung, normal, oil, emergency, last, room, headroom, withOpen, lowered, raised, plain, unloading, lastStep, crediting, all, toEmergency, unload, credit, remainder}
 use Rattle.rules.specs.Refusals.{Outcome, accepted, refused}
 use Rattle.rules.specs.Units.{movable}
 use Rattle.rules.specs.Words.{if_then_else_, sumTo}

@@ -23,7 +23,8 @@ use Rattle.rules.specs.declared.Refusal.the-variants.{TooLong, Form}
 use Rattle.laws.specs.Choices.{false-not-true, refused-not-accepted, refuse-passed, then-passed}
 use Rattle.roundtrip.specs.Lines.{line-stood}
 use Rattle.roundtrip.specs.Taken.{taken-passed, headed-passed, finished-passed}
-use Rattle.roundtrip.specs.Grown.{started-sized, started-body, Sized, fed-grown}
+use Rattle.roundtrip.specs.Entries.{Entries, started-entries}
+use Rattle.roundtrip.specs.Grown.{started-body, fed-grown}
 use Rattle.roundtrip.specs.OwnLines.{OwnLines}
 
 -- Lines from a place on.
@@ -56,7 +57,8 @@ end-line D v e = false-not-true e
 end-line E v e = refl
 
 module _ (s : List ℕ) (after : Hour) where
-  fed-end : (h : Hour) (at next : ℕ) (l : Line) → lineAt s at ≡ got l next → isEnd (l .letter) ≡ true → next ≡ length s → finished h ≡ accepted after → Fed s h at after
+  fed-end : (h : Hour) (at next : ℕ) (l : Line) → lineAt s at ≡ got l next → isEnd (l .letter) ≡ true → next ≡ length s → finished h ≡ accepted after
+      → Fed s h at after
   unfolding reading.feed writing.texts writing.allLabelled lines.ranged
   fed-end h at next l e i n d =
       let k : l ≡ endLine = end-line (l .letter) (l .fields) i in
@@ -89,7 +91,8 @@ module _ (s : List ℕ) (after : Hour) where
       let a = line-passed (lineAt s at) (Form (lineNumber h)) (turn s h (linesFrom f s)) after e in
       go (a .line-read) (a .next) (a .is) (isEnd (a .line-read .letter)) refl (a .goes) (lines-fed f)
     where
-      last : (l : Line) (next : ℕ) → lineAt s at ≡ got l next → isEnd (l .letter) ≡ true → (b : Bool) → eqb next (length s) ≡ b → (if b then finished h else refused (Form (lineNumber h + 1))) ≡ accepted after → Fed s h at after
+      last : (l : Line) (next : ℕ) → lineAt s at ≡ got l next → isEnd (l .letter) ≡ true → (b : Bool) → eqb next (length s) ≡ b
+          → (if b then finished h else refused (Form (lineNumber h + 1))) ≡ accepted after → Fed s h at after
       last l next le i true be e = fed-end h at next l le i (eqb-true next (length s) be) e
       last l next le i false be e = refused-not-accepted _ after e
 
@@ -112,7 +115,7 @@ module _ (s : List ℕ) (h : Hour) where
   unfolding writing.deckText
   deck-stands l start next le he f =
       let hd = headed-passed l start he in
-      let g = fed-grown (f .ls) start h (subst Sized (hd .starts) (started-sized (start .losses))) (f .fed) in
+      let g = fed-grown (f .ls) start h (subst Entries (hd .starts) (started-entries (start .losses))) (f .fed) in
       let b : body h ≡ f .ls = g .lines ∙ ap (λ x. x ++ f .ls) (ap body (sym (hd .starts)) ∙ started-body (start .losses)) in
       let i : l ≡ headLine h = hd .is ∙ ap (λ (n : ℕ). line H (n, tt)) (sym (g .losses)) in
       let z : start ≡ started (h .losses) = sym (hd .starts) ∙ ap started (sym (g .losses)) in

@@ -29,8 +29,8 @@ use Rattle.roundtrip.specs.Labels.{label-from}
 use Rattle.roundtrip.specs.Fields.{inside-from, size}
 use Rattle.roundtrip.specs.Lines.{lineRanged, lineLabelled, lineSize, line-length}
 use Rattle.roundtrip.specs.Taken.{Entry, source, delivery, direct, taken-passed}
-use Rattle.roundtrip.specs.Grown.{Sized, started-sized, fed-grown}
-use Rattle.roundtrip.specs.OwnLines.{OwnLines, head-passed, valid-own}
+use Rattle.roundtrip.specs.Entries.{Entries}
+use Rattle.roundtrip.specs.OwnLines.{OwnLines, head-passed, valid-own, own-entries}
 use Rattle.roundtrip.specs.AcceptedIsWriting.{reading-stands}
 
 -- A number's digits are no more than a greater one's.
@@ -83,14 +83,14 @@ most (label ∷ ks) = 35 + most ks
 basis-most : (x : Range) (b : Basis) → basisInside x b ≡ true → length (basisText b) ≤ length (digits (x .most))
 basis-most x Low e = digits-some (x .most)
 basis-most x Generation e = digits-some (x .most)
-basis-most x (Mwh v) e = digits-most v (x .most) (inside-from x v e .1)
+basis-most x (Mwh v) e = digits-most v (x .most) (inside-from x v e .most)
 
 size-most : (ks : List Kind) (v : Fields Chars ks) → ranged ks v ≡ true → labelled ks v ≡ true → size ks v ≤ most ks
 unfolding lines.ranged lines.labelled most
 size-most [] v r l = omega arith
 size-most (number x ∷ ks) v r l =
     let p = both-true (inside x (v .0)) (ranged ks (v .1)) r in
-    omega (arith, digits-most (v .0) (x .most) (inside-from x (v .0) (p .0) .1), size-most ks (v .1) (p .1) l)
+    omega (arith, digits-most (v .0) (x .most) (inside-from x (v .0) (p .0) .most), size-most ks (v .1) (p .1) l)
 size-most (basis x ∷ ks) v r l =
     let p = both-true (basisInside x (v .0)) (ranged ks (v .1)) r in
     omega (arith, basis-most x (v .0) (p .0), size-most ks (v .1) (p .1) l)
@@ -121,7 +121,8 @@ entry-weight h l after r lb (source x e t) = rw (← (t .is)) (omega (arith, sub
 entry-weight h l after r lb (delivery x e t) = rw (← (t .is)) (omega (arith, subst (AtMost 49) e (line-most (deliveryLine x)) r lb))
 entry-weight h l after r lb (direct x e t) = rw (← (t .is)) (omega (arith, subst (AtMost 81) e (line-most (directLine h x)) r lb))
 
-fed-weight : (ls : List Line) (h after : Hour) (rest : List ℕ) → allLabelled ls ≡ true → feed h ls ≡ accepted after → length (texts ls rest) + weight h ≤ weight after + length rest
+fed-weight : (ls : List Line) (h after : Hour) (rest : List ℕ) → allLabelled ls ≡ true → feed h ls ≡ accepted after
+    → length (texts ls rest) + weight h ≤ weight after + length rest
 unfolding reading.feed writing.texts writing.allLabelled
 fed-weight [] h after rest lb e = rw (accepted-same h after e) (omega arith)
 fed-weight (l ∷ ls) h after rest lb e =
@@ -132,9 +133,9 @@ fed-weight (l ∷ ls) h after rest lb e =
 
 -- The whole deck.
 
-weight-most : (h : Hour) → Sized h → weight h ≤ 7008
+weight-most : (h : Hour) → Entries h → weight h ≤ 7008
 unfolding weight
-weight-most h z = omega (arith, z .sources-most, z .deliveries-most, z .directs-most)
+weight-most h g = omega (arith, g .sources .few, g .deliveries .few, g .directs .few)
 
 head-most : (h : Hour) → lineRanged (headLine h) ≡ true → lineSize (headLine h) ≤ 8
 unfolding most fields.digits fields.digitsIn lines.labelled
@@ -144,8 +145,8 @@ pub own-at-most : (h : Hour) → OwnLines h → length (deckText h) ≤ 7018
 unfolding writing.deckText
 own-at-most h o =
     let w = fed-weight (body h) (started (h .losses)) h (lineText endLine []) (o .labels) (o .fed) in
-    let z = fed-grown (body h) (started (h .losses)) h (started-sized (h .losses)) (o .fed) .sized in
-    omega (arith, line-length (headLine h) (texts (body h) (lineText endLine [])), line-length endLine [], w, weight-most h z, head-most h (head-passed h (started (h .losses)) (o .head) .0))
+    let g = own-entries h o in
+    omega (arith, line-length (headLine h) (texts (body h) (lineText endLine [])), line-length endLine [], w, weight-most h g, head-most h (head-passed h (started (h .losses)) (o .head) .0))
 
 pub valid-at-most : (h : Hour) → valid h ≡ true → length (deckText h) ≤ 7018
 valid-at-most h v = own-at-most h (valid-own h v)

@@ -83,15 +83,19 @@ module _ {A : Type 0} (field : List ℕ → ℕ → Field A) where
 
 -- Numbers and bases in their ranges.
 
-pub inside-from : (x : Range) (v : ℕ) → inside x v ≡ true → (x .least ≤ v) × (v ≤ x .most)
-inside-from x v e = let p = both-true (leb (x .least) v) (leb v (x .most)) e in (leb-true (x .least) v (p .0), leb-true v (x .most) (p .1))
+pub record Inside (x : Range) (v : ℕ) : Type 0 where
+  pub least : x .least ≤ v
+  pub most : v ≤ x .most
+
+pub inside-from : (x : Range) (v : ℕ) → inside x v ≡ true → Inside x v
+inside-from x v e = let p = both-true (leb (x .least) v) (leb v (x .most)) e in record { least = leb-true (x .least) v (p .0); most = leb-true v (x .most) (p .1) }
 
 -- a range of numbers that have 64 bits
 abbrev NarrowRange : Range → Type 0
 NarrowRange x = x .most < 2 ^ 64
 
 inside-small : (x : Range) (v : ℕ) → NarrowRange x → inside x v ≡ true → v < 2 ^ 64
-inside-small x v n e = omega (arith, inside-from x v e .1)
+inside-small x v n e = omega (arith, inside-from x v e .most)
 
 number-trip : (x : Range) (v : ℕ) → NarrowRange x → inside x v ≡ true → Trip spacedNumber (λ v. 32 ∷ digits v) v
 unfolding fields.spacedNumber
@@ -99,7 +103,8 @@ number-trip x v n i =
     spaced-trip numberAt digits v
     (record { reads = λ s rest at. number-read s at v rest (inside-small x v n i); stands = λ s at next. number-stood s at v next (inside-small x v n i) })
 
-basis-read : (x : Range) (b : Basis) (s rest : List ℕ) (at : ℕ) → NarrowRange x → basisInside x b ≡ true → drop at s ≡ basisText b ++ rest → Stops rest → basisAt s at ≡ got b (at + length (basisText b))
+basis-read : (x : Range) (b : Basis) (s rest : List ℕ) (at : ℕ) → NarrowRange x → basisInside x b ≡ true → drop at s ≡ basisText b ++ rest → Stops rest
+    → basisAt s at ≡ got b (at + length (basisText b))
 unfolding fields.basisAt
 basis-read x Low s rest at n i e stop = rw (getD-first s (76 ∷ rest) at 0 e)
 basis-read x Generation s rest at n i e stop = rw (getD-first s (71 ∷ rest) at 0 e)
@@ -108,7 +113,8 @@ basis-read x (Mwh v) s rest at n i e stop =
     let d = digit-from (byte s at) (number-first s at v (at + length (digits v)) r) in
     rw (ne-eqb (byte s at) 76 (λ k. omega arith), ne-eqb (byte s at) 71 (λ k. omega arith), r)
 
-basis-stood : (x : Range) (b : Basis) (s : List ℕ) (at next : ℕ) → NarrowRange x → basisInside x b ≡ true → basisAt s at ≡ got b next → drop at s ≡ basisText b ++ drop next s
+basis-stood : (x : Range) (b : Basis) (s : List ℕ) (at next : ℕ) → NarrowRange x → basisInside x b ≡ true → basisAt s at ≡ got b next
+    → drop at s ≡ basisText b ++ drop next s
 unfolding fields.basisAt
 basis-stood x b s at next n i e = go (eqb (byte s at) 76) refl (eqb (byte s at) 71) refl (numberAt s at) refl e
   where
@@ -118,7 +124,8 @@ basis-stood x b s at next n i e = go (eqb (byte s at) 76) refl (eqb (byte s at) 
         let j : at + 1 ≡ next = cc in
         byte-there s at c h ce ∙ rw (← j, ← w, t)
 
-    go : (p : Bool) → eqb (byte s at) 76 ≡ p → (q : Bool) → eqb (byte s at) 71 ≡ q → (f : Field ℕ) → numberAt s at ≡ f → (if p then got Low (at + 1) else if q then got Generation (at + 1) else basisFrom f) ≡ got b next → drop at s ≡ basisText b ++ drop next s
+    go : (p : Bool) → eqb (byte s at) 76 ≡ p → (q : Bool) → eqb (byte s at) 71 ≡ q → (f : Field ℕ) → numberAt s at ≡ f
+        → (if p then got Low (at + 1) else if q then got Generation (at + 1) else basisFrom f) ≡ got b next → drop at s ≡ basisText b ++ drop next s
     go true pe q qe f fe e = letter 76 Low (omega arith) refl pe e
     go false pe true qe f fe e = letter 71 Generation (omega arith) refl qe e
     go false pe false qe malformed fe e = malformed-not-got b next e
@@ -144,7 +151,8 @@ abbrev pub labelText : Chars → List ℕ
 labelText cs = 32 ∷ 34 ∷ escape cs ++ (34 ∷ [])
 
 -- what stands between the quotes
-chars-between : (s cs rest : List ℕ) (d : ℕ) → drop d s ≡ 34 ∷ escape cs ++ (34 ∷ rest) → charsAt s (record { from = d + 1; upto = d + (1 + length (escape cs)) }) ≡ cs
+chars-between : (s cs rest : List ℕ) (d : ℕ) → drop d s ≡ 34 ∷ escape cs ++ (34 ∷ rest)
+    → charsAt s (record { from = d + 1; upto = d + (1 + length (escape cs)) }) ≡ cs
 chars-between s cs rest d e =
     let k : d + (1 + length (escape cs)) - (d + 1) ≡ length (escape cs) = omega arith in
     ap (unescape false)
@@ -173,7 +181,8 @@ label-from-passed d none p next e = malformed-not-got p next e
 label-from-passed d (some z) p next e = record { end = z; is = refl; place = cc; after = cc }
 
 -- the characters of what stands between the quotes stand there
-chars-there : (cs s : List ℕ) (at end next : ℕ) → drop at s ≡ 32 ∷ drop (at + 1) s → Quoted (drop (at + 1) s) end → charsAt s (record { from = at + 1 + 1; upto = at + 1 + end }) ≡ cs → at + 1 + end + 1 ≡ next
+chars-there : (cs s : List ℕ) (at end next : ℕ) → drop at s ≡ 32 ∷ drop (at + 1) s → Quoted (drop (at + 1) s) end
+    → charsAt s (record { from = at + 1 + 1; upto = at + 1 + end }) ≡ cs → at + 1 + end + 1 ≡ next
     → (drop at s ≡ labelText cs ++ drop next s) × (isLabel cs ≡ true)
 chars-there cs s at end next space q e n =
     let is : cs ≡ q .cs = sym e ∙ ap (λ (k : ℕ). charsAt s (record { from = at + 1 + 1; upto = at + 1 + k })) (q .place) ∙ chars-between s (q .cs) (q .rest) (at + 1) (q .text) in
@@ -232,7 +241,9 @@ written-stops (label ∷ ks) v rest h = refl
 
 -- one field more
 module _ {A B : Type 0} (field : List ℕ → ℕ → Field A) (text : A → List ℕ) (rest : ℕ → Field B) (s : List ℕ) (at : ℕ) where
-  more-read : (a : A) (b : B) (w : List ℕ) (n : ℕ) → Trip field text a → drop at s ≡ text a ++ w → Stops w → rest (at + length (text a)) ≡ got b (at + length (text a) + n) → onField (field s at) (λ v next. push v (rest next)) ≡ got (a, b) (at + (length (text a) + n))
+  more-read : (a : A) (b : B) (w : List ℕ) (n : ℕ) → Trip field text a → drop at s ≡ text a ++ w → Stops w
+      → rest (at + length (text a)) ≡ got b (at + length (text a) + n)
+      → onField (field s at) (λ v next. push v (rest next)) ≡ got (a, b) (at + (length (text a) + n))
   more-read a b w n t e stop r =
       let k : at + length (text a) + n ≡ at + (length (text a) + n) = omega arith in
       rw (t .reads s w at e stop, r) (ap (got (a, b)) k)
@@ -256,7 +267,8 @@ module _ {A B : Type 0} (field : List ℕ → ℕ → Field A) (text : A → Lis
           record { place = m; first = f ∙ ap (λ (x : A × B). got (x .0) m) p; second = re ∙ ap (λ (x : A × B). got (x .1) k) p ∙ ap (got (v .1)) q }
 
 -- written fields are read
-pub fields-read : (ks : List Kind) (v : Fields Chars ks) (s rest : List ℕ) (at : ℕ) → Narrow ks → ranged ks v ≡ true → labelled ks v ≡ true → Stops rest → drop at s ≡ written ks v rest → readAt ks s at ≡ got v (at + size ks v)
+pub fields-read : (ks : List Kind) (v : Fields Chars ks) (s rest : List ℕ) (at : ℕ) → Narrow ks → ranged ks v ≡ true → labelled ks v ≡ true → Stops rest
+    → drop at s ≡ written ks v rest → readAt ks s at ≡ got v (at + size ks v)
 unfolding lines.written lines.ranged lines.labelled
 fields-read [] v s rest at n r lb stop e = let k : at ≡ at + 0 = omega arith in ap (got v) k
 fields-read (number x ∷ ks) v s rest at n r lb stop e =
@@ -340,7 +352,8 @@ module _ {A B C D : Type 0} (label : A → C) (others : B → D) (field : Field 
       pushed a (got b n) = refl
       pushed a malformed = refl
 
-      go : (f : Field A) → onField (onField f (λ v n. got (label v) n)) (λ v n. push v (seen-rest n)) ≡ onField (onField f (λ v n. push v (rest n))) (λ v n. got (label (v .0), others (v .1)) n)
+      go : (f : Field A)
+          → onField (onField f (λ v n. got (label v) n)) (λ v n. push v (seen-rest n)) ≡ onField (onField f (λ v n. push v (rest n))) (λ v n. got (label (v .0), others (v .1)) n)
       go (got a m) = rw (r m) (pushed a (rest m))
       go malformed = refl
 

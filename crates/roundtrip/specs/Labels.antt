@@ -1,4 +1,8 @@
 -- Labels are equal exactly when their bytes are; a written label is read, and a label that is read was written.
+--     bytes-equal      escape cs ≡ escape ds exactly when cs ≡ ds
+--     labels-equal     the test of sameness tells just that
+--     label-read       where a label stands between its quotes, it is read
+--     label-stood      where a label is read, it stands
 use mathlib.Core.Path.{_≡_, refl, ap, sym, _∙_}
 use mathlib.Core.Logic.{_↔_}
 use mathlib.Core.Bool.{Bool, true, false, _&&_, _||_}
@@ -64,14 +68,16 @@ label-is cs l = rw (l .some, l .few) (l .all)
 closed-same : (n n′ i i′ : ℕ) → n ≡ n′ → i ≡ i′ → closed n i ≡ closed n′ i′
 closed-same n n′ i i′ p q = rw (p, q)
 
-closing-escape : (cs rest : Chars) (n i : ℕ) → allCharacters cs ≡ true → closing false n i (escape cs ++ (34 ∷ rest)) ≡ closed (n + length cs) (i + length (escape cs))
+closing-escape : (cs rest : Chars) (n i : ℕ) → allCharacters cs ≡ true
+    → closing false n i (escape cs ++ (34 ∷ rest)) ≡ closed (n + length cs) (i + length (escape cs))
 unfolding fields.closing fields.escape fields.allCharacters
 closing-escape [] rest n i a = closed-same n (n + 0) i (i + 0) (omega arith) (omega arith)
 closing-escape (c ∷ cs) rest n i a =
     let p = both-true (isCharacter c) (allCharacters cs) a in
     go (p .0) (isEscaped c) refl (λ j. closing-escape cs rest (suc n) j (p .1))
   where
-    go : isCharacter c ≡ true → (p : Bool) → isEscaped c ≡ p → ((j : ℕ) → closing false (suc n) j (escape cs ++ (34 ∷ rest)) ≡ closed (suc n + length cs) (j + length (escape cs)))
+    go : isCharacter c ≡ true → (p : Bool) → isEscaped c ≡ p
+        → ((j : ℕ) → closing false (suc n) j (escape cs ++ (34 ∷ rest)) ≡ closed (suc n + length cs) (j + length (escape cs)))
         → closing false n i ((if p then 92 ∷ c ∷ escape cs else c ∷ escape cs) ++ (34 ∷ rest)) ≡ closed (n + suc (length cs)) (i + length (if p then 92 ∷ c ∷ escape cs else c ∷ escape cs))
     go k true e ih = rw e (ih (suc (suc i)) ∙ closed-same (suc n + length cs) (n + suc (length cs)) (suc (suc i) + length (escape cs)) (i + suc (suc (length (escape cs)))) (omega arith) (omega arith))
     go k false e ih =
@@ -152,7 +158,8 @@ found (b ∷ t) true n i z h =
     found-character b n i z t true (p .0) (escaped-character b (p .0)) (found t false (suc n) (suc i) z (p .1))
 found (b ∷ t) false n i z h = go (eqb b 34) refl (eqb b 92) refl h (found t true n (suc i) z) (found t false (suc n) (suc i) z)
   where
-    go : (q : Bool) → eqb b 34 ≡ q → (s : Bool) → eqb b 92 ≡ s → (if q then closed n i else if s then closing true n (suc i) t else if isCharacter b then closing false (suc n) (suc i) t else none) ≡ some z
+    go : (q : Bool) → eqb b 34 ≡ q → (s : Bool) → eqb b 92 ≡ s
+        → (if q then closed n i else if s then closing true n (suc i) t else if isCharacter b then closing false (suc n) (suc i) t else none) ≡ some z
         → (closing true n (suc i) t ≡ some z → Found true n (suc i) t z) → (closing false (suc n) (suc i) t ≡ some z → Found false (suc n) (suc i) t z) → Found false n i (b ∷ t) z
     go true qe s se h opened plain = rw (eqb-true b 34 qe) (found-quote n i z t h)
     go false qe true se h opened plain = rw (eqb-true b 92 se) (found-backslash n i z t (opened h))

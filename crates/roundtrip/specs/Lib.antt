@@ -3,6 +3,7 @@ pub mod Labels
 pub mod Fields
 pub mod Lines
 pub mod Taken
+pub mod Entries
 pub mod Grown
 pub mod SameHour
 pub mod OwnLines
@@ -11,3 +12,4 @@ pub mod DeckAtMost7018
 pub mod ValidReadsBack
 pub mod DeckRoundTrip
 pub mod Loop
+pub mod GivenHour

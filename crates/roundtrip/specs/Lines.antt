@@ -52,7 +52,8 @@ unfolding lines.letterOf
 letter-byte b l e =
     test H (test U (test P (test F (test T (test D (test E (none-not-some l))))))) e
   where
-    test : (k : Letter) {rest : Option Letter} → (rest ≡ some l → eqb b (byteOf l) ≡ true) → (if eqb b (byteOf k) then some k else rest) ≡ some l → eqb b (byteOf l) ≡ true
+    test : (k : Letter) {rest : Option Letter} → (rest ≡ some l → eqb b (byteOf l) ≡ true) → (if eqb b (byteOf k) then some k else rest) ≡ some l
+        → eqb b (byteOf l) ≡ true
     test k {rest} after e = go (eqb b (byteOf k)) refl e
       where
         go : (p : Bool) → eqb b (byteOf k) ≡ p → (if p then some k else rest) ≡ some l → eqb b (byteOf l) ≡ true
@@ -62,15 +63,18 @@ letter-byte b l e =
 -- The whole line.
 
 -- a line's fields with each label's characters, and its LF
-rest-read : (s : List ℕ) (at : ℕ) (l : Letter) → lineFrom s at (some l) ≡ onField (readAt (fieldsOf l) s at) (λ v p. onField (byteAt s p 10) λ u next. got (line l v) next)
+rest-read : (s : List ℕ) (at : ℕ) (l : Letter)
+    → lineFrom s at (some l) ≡ onField (readAt (fieldsOf l) s at) (λ v p. onField (byteAt s p 10) λ u next. got (line l v) next)
 unfolding lines.placesAt
 rest-read s at l = rw (seen-read (fieldsOf l) s at) (go (fieldsAt (fieldsOf l) s at))
   where
-    ends : (v : Fields Place (fieldsOf l)) (y : Field (Unit {0})) → onField (onField y (λ u next. got v next)) (λ v next. got (line l (seen (fieldsOf l) s v)) next) ≡ onField y (λ u next. got (line l (seen (fieldsOf l) s v)) next)
+    ends : (v : Fields Place (fieldsOf l)) (y : Field (Unit {0}))
+        → onField (onField y (λ u next. got v next)) (λ v next. got (line l (seen (fieldsOf l) s v)) next) ≡ onField y (λ u next. got (line l (seen (fieldsOf l) s v)) next)
     ends v (got u next) = refl
     ends v malformed = refl
 
-    go : (g : Field (Fields Place (fieldsOf l))) → onField (onField g (λ v p. onField (byteAt s p 10) λ u next. got v next)) (λ v next. got (line l (seen (fieldsOf l) s v)) next)
+    go : (g : Field (Fields Place (fieldsOf l)))
+        → onField (onField g (λ v p. onField (byteAt s p 10) λ u next. got v next)) (λ v next. got (line l (seen (fieldsOf l) s v)) next)
         ≡ onField (onField g (λ v n. got (seen (fieldsOf l) s v) n)) (λ v p. onField (byteAt s p 10) λ u next. got (line l v) next)
     go (got v p) = ends v (byteAt s p 10)
     go malformed = refl
@@ -123,7 +127,8 @@ pub record LineStood (l : Line) (s : List ℕ) (at next : ℕ) : Type 0 where
   pub within : next ≤ length s
 
 -- a letter, its fields and LF
-line-there : (l : Letter) (v : Fields Chars (fieldsOf l)) (s : List ℕ) (at p next : ℕ) → eqb (byte s at) (byteOf l) ≡ true → readAt (fieldsOf l) s (at + 1) ≡ got v p → byteAt s p 10 ≡ got tt next → LineStood (line l v) s at next
+line-there : (l : Letter) (v : Fields Chars (fieldsOf l)) (s : List ℕ) (at p next : ℕ) → eqb (byte s at) (byteOf l) ≡ true → readAt (fieldsOf l) s (at + 1) ≡ got v p
+    → byteAt s p 10 ≡ got tt next → LineStood (line l v) s at next
 unfolding lines.lineText
 line-there l v s at p next b f e =
     let st = fields-stood (fieldsOf l) v s (at + 1) p (narrow l) f in

@@ -48,7 +48,8 @@ module _ (P : ℕ → List ℕ → Type 0) (one : (v : ℕ) → v < 10 → P v (
   digits-in zero v h = rw lt-ltb (one v h)
   digits-in (suc f) v h = go (ltb v 10) refl (λ k. digits-in f (v / 10) (let j = simp pow-suc at h in omega arith))
     where
-      go : (p : Bool) → ltb v 10 ≡ p → (10 ≤ v → P (v / 10) (digitsIn (suc f) (v / 10))) → P v (if p then (48 + v) ∷ [] else digitsIn (suc f) (v / 10) ++ ((48 + v % 10) ∷ []))
+      go : (p : Bool) → ltb v 10 ≡ p → (10 ≤ v → P (v / 10) (digitsIn (suc f) (v / 10)))
+          → P v (if p then (48 + v) ∷ [] else digitsIn (suc f) (v / 10) ++ ((48 + v % 10) ∷ []))
       go true e k = one v (ltb-true v 10 e)
       go false e k = more v (digitsIn (suc f) (v / 10)) (ltb-false v 10 e) (k (ltb-false v 10 e))
 
@@ -63,7 +64,7 @@ digits-one v h = simp (lt-ltb v 10 h)
 -- room for one digit more changes nothing
 digits-enough : (f v : ℕ) → v < 10 ^ suc f → digitsIn (suc f) v ≡ digitsIn (suc (suc f)) v
 unfolding fields.digitsIn
-digits-enough zero v h = rw lt-ltb
+digits-enough zero v h = rw (lt-ltb v 10 h)
 digits-enough (suc f) v h = ap (λ (l : List ℕ). if ltb v 10 then (48 + v) ∷ [] else l ++ ((48 + v % 10) ∷ [])) (digits-enough f (v / 10) (let k = simp pow-suc at h in omega arith))
 
 pub digits-more : (v : ℕ) → 10 ≤ v → v < 2 ^ 64 → digits v ≡ digits (v / 10) ++ ((48 + v % 10) ∷ [])
@@ -201,7 +202,8 @@ digits-front at v n l h e k =
     let q = got-failed (eqb (getD l 0 0) 48 && isDigit (getD l 1 0)) _ v n (p .1) in
     go (k .front) (k .rest) (k .whole) (k .all) (k .stop) (not-false _ (p .0)) (q .0) (q .1)
   where
-    go : (xs rest : List ℕ) → l ≡ xs ++ rest → AllDigits xs → Stops rest → isDigit (getD l 0 0) ≡ true → (eqb (getD l 0 0) 48 && isDigit (getD l 1 0)) ≡ false → run 0 at l ≡ got v n → Front at l v n
+    go : (xs rest : List ℕ) → l ≡ xs ++ rest → AllDigits xs → Stops rest → isDigit (getD l 0 0) ≡ true → (eqb (getD l 0 0) 48 && isDigit (getD l 1 0)) ≡ false
+        → run 0 at l ≡ got v n → Front at l v n
     go [] rest e a stop d z r = true-not-false (sym d ∙ rw e stop)
     go (b ∷ xs) rest e a stop d z r =
         let same : got (worth 0 (b ∷ xs)) (at + length (b ∷ xs)) ≡ got v n = sym (ap (run 0 at) e ∙ run-over (b ∷ xs) rest 0 at a stop) ∙ r in

@@ -12,6 +12,8 @@ use Rattle.rules.specs.declared.Refusal.the-variants.{Range}
 use Rattle.laws.specs.Choices.{false-not-true, both-true, not-false, accepted-same, refuse-passed, then-passed}
 use Rattle.roundtrip.specs.Lines.{lineRanged}
 use Rattle.roundtrip.specs.Taken.{finished-passed}
+use Rattle.roundtrip.specs.Entries.{Entries, started-entries}
+use Rattle.roundtrip.specs.Grown.{fed-grown}
 use Rattle.roundtrip.specs.SameHour.{same-hour}
 
 pub record OwnLines (h : Hour) : Type 0 where
@@ -54,3 +56,7 @@ valid-own h v =
 pub own-valid : (h : Hour) → OwnLines h → valid h ≡ true
 unfolding writing.valid writing.given
 own-valid h o = rw (o .labels, o .head, o .fed, o .done) (same-hour h h .1 refl)
+
+-- its entries are those of lines that were taken
+pub own-entries : (h : Hour) → OwnLines h → Entries h
+own-entries h o = fed-grown (body h) (started (h .losses)) h (started-entries (h .losses)) (o .fed) .entries

@@ -109,7 +109,8 @@ record DirectEntry (h : Hour) (inRange : Bool) (b : Basis) (percent : ℕ) (unit
   line-is : directLine h entry ≡ line D (b, (percent, (unit, (delivery, tt))))
   entry-taken : DirectTaken h entry after
 
-direct-taken : (h : Hour) (inRange : Bool) (b : Basis) (percent : ℕ) (unit delivery : Chars) (after : Hour) → directTaken h inRange b percent (labelOf unit) (labelOf delivery) ≡ accepted after → DirectEntry h inRange b percent unit delivery after
+direct-taken : (h : Hour) (inRange : Bool) (b : Basis) (percent : ℕ) (unit delivery : Chars) (after : Hour)
+    → directTaken h inRange b percent (labelOf unit) (labelOf delivery) ≡ accepted after → DirectEntry h inRange b percent unit delivery after
 direct-taken h inRange b percent unit delivery after e =
     let a = refuse-passed (not inRange) _ _ after e in
     let c = refuse-passed (leb 32 (h .ndirects)) _ _ after (a .1) in
@@ -119,7 +120,8 @@ direct-taken h inRange b percent unit delivery after e =
     let q = refuse-passed (ltb 100 (percentsOf h (u .index) + percent)) _ _ after (p .1) in
     entered (u .index) (d .index) (a .0) (c .0) (u .is) (d .is) (p .0) (q .0) (q .1)
   where
-    entered : (i j : ℕ) → not inRange ≡ false → leb 32 (h .ndirects) ≡ false → unitNamed h (labelOf unit) ≡ some i → deliveryNamed h (labelOf delivery) ≡ some j → not (basisKept h i b && belowHigh b (sourceAt h i .plant)) ≡ false → ltb 100 (percentsOf h i + percent) ≡ false
+    entered : (i j : ℕ) → not inRange ≡ false → leb 32 (h .ndirects) ≡ false → unitNamed h (labelOf unit) ≡ some i → deliveryNamed h (labelOf delivery) ≡ some j
+        → not (basisKept h i b && belowHigh b (sourceAt h i .plant)) ≡ false → ltb 100 (percentsOf h i + percent) ≡ false
         → accepted (withDirect h (record { basis = b; percent = percent; source = i; delivery = j })) ≡ accepted after → DirectEntry h inRange b percent unit delivery after
     entered i j w r ui di k p e =
         let uf = findTo-passes _ (h .nsources) i ui in
@@ -173,7 +175,8 @@ fixed-line v = ap (λ (c : Chars). line F (v .0, (c, tt))) (chars-label (v .1 .0
 delivery-line : (v : Fields Chars (fieldsOf T)) → deliveryLine (deliveryOf v) ≡ line T v
 delivery-line v = ap (λ (c : Chars). line T (v .0, (v .1 .0, (v .1 .1 .0, (v .1 .1 .1 .0, (c, tt)))))) (chars-label (v .1 .1 .1 .1 .0))
 
-source-entry : (h : Hour) (l : Line) (x : Source) (after : Hour) → sourceLine x ≡ l → isEnd (l .letter) ≡ false → sourceTaken h (lineRanged l) x ≡ accepted after → Taken h l after
+source-entry : (h : Hour) (l : Line) (x : Source) (after : Hour) → sourceLine x ≡ l → isEnd (l .letter) ≡ false → sourceTaken h (lineRanged l) x ≡ accepted after
+    → Taken h l after
 source-entry h l x after is n e = let t = source-taken h (lineRanged l) x after e in record { within = t .0; not-end = n; entry = source x is (t .1) }
 
 taken-as : (h : Hour) (l : Letter) (v : Fields Chars (fieldsOf l)) (after : Hour) → takenAs h l v ≡ accepted after → Taken h (line l v) after
@@ -228,7 +231,8 @@ finished-passed h after e =
     let a = refuse-passed (ltb (generated h) (h .losses + delivered h)) Overdrawn _ after e in
     go (ltb-false (generated h) (h .losses + delivered h) (a .0)) (unplaced h) refl (placer h) refl (a .1)
   where
-    go : h .losses + delivered h ≤ generated h → (u : Option ℕ) → unplaced h ≡ u → (p : Option ℕ) → placer h ≡ p → needsPlacer h u p ≡ accepted after → Finished h after
+    go : h .losses + delivered h ≤ generated h → (u : Option ℕ) → unplaced h ≡ u → (p : Option ℕ) → placer h ≡ p → needsPlacer h u p ≡ accepted after
+        → Finished h after
     go d none ue p pe e = record { same = accepted-same h after e; drawn = d; placeable = λ i k. none-not-some i (sym ue ∙ k) }
     go d (some i) ue none pe e = refused-not-accepted _ after e
     go d (some i) ue (some j) pe e = record { same = accepted-same h after e; drawn = d; placeable = λ _ _. (j, pe) }

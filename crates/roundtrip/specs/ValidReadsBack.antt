@@ -35,7 +35,8 @@ module _ (s : List ℕ) where
       rw (line-read endLine s [] at t refl refl, eq-eqb (at + lineSize endLine) (length s) k)
 
   -- lines that are fed are read in turn
-  fed-read : (ls : List Line) (h after : Hour) (at f : ℕ) → feed h ls ≡ accepted after → allLabelled ls ≡ true → drop at s ≡ texts ls (lineText endLine []) → length ls < f → linesFrom f s h at ≡ finished after
+  fed-read : (ls : List Line) (h after : Hour) (at f : ℕ) → feed h ls ≡ accepted after → allLabelled ls ≡ true → drop at s ≡ texts ls (lineText endLine [])
+      → length ls < f → linesFrom f s h at ≡ finished after
   unfolding reading.feed reading.linesFrom writing.texts writing.allLabelled
   fed-read ls h after at zero e lb t lt = absurd (omega arith)
   fed-read [] h after at (suc f) e lb t lt = end-read h at f t ∙ ap finished (accepted-same h after e)

@@ -1,0 +1,153 @@
+-- Where the plants' numbers are in document 01's ranges, every cell of an answer is at most 10^14 in size, and so fits 64 signed bits.
+use mathlib.Core.Bool.{Bool, true, false}
+use mathlib.Core.List.{List, [], _∷_, _++_}
+use mathlib.Core.Path.{_≡_}
+use Prim.Native.Nat.{ℕ, zero, suc, _+_, _-_, _^_, _≤_, _<_}
+use native.Mathlib.Omega.{arith}
+use lib.IntN.{ℤ, pos, negsuc, natAbs}
+use lib.Signed.{mag}
+use mir.Syntax.{w64}
+use mir.Val.{SFits, hbits}
+use Rattle.balance.specs.AnswerCells.{cellAt, answer-cells}
+use Rattle.balance.specs.HourBalances.{plantAt, Given, started, started-at, afterLines, Grouped, groups-keep, Balanced, lines-directed, start-balanced, none-balanced, grouped-balanced}
+use Rattle.balance.specs.SharesMakeUpTheAmount.{share-most}
+use Rattle.merit.specs.LevelNeverBelowB.{Sound, stateAt, Took, moved-sound}
+use Rattle.merit.specs.NumbersStaySmall.{PlantRanged, Small, level-small, changed-small, paid-small, opened-small, took-small, shift-small}
+use Rattle.merit.specs.RemainderMoves.{Shift, shift-moved, remainder-moves}
+use Rattle.rules.specs.Group.{level, Amount, signed, Item, directMwh, incrementalMwh, directCost, incrementalCost, amount}
+use Rattle.rules.specs.Hour.{numbers, member, share, Cells, Progress, shared, groups, reconstructed, pairCells, openCells, cellsOf, answer}
+use Rattle.rules.specs.Refusals.{accepted}
+use Rattle.rules.specs.Words.{if_then_else_, listTo}
+use Rattle.rules.specs.declared.Hour.{Hour}
+use Rattle.rules.specs.declared.InternalSequence.{InternalSequence}
+use Rattle.rules.specs.declared.Running.{Running}
+
+pub record Ranged (h : Hour) : Type 0 where
+  pub plants : (i : ℕ) → PlantRanged (plantAt h i)
+
+abbrev pub SmallCell : ℤ → Type 0
+SmallCell z = natAbs z ≤ 100_000_000_000_000
+
+signed-small : (s : Bool) (x : ℕ) → x ≤ 100_000_000_000_000 → SmallCell (signed s x)
+signed-small true zero h = omega arith
+signed-small true (suc x) h = h
+signed-small false x h = h
+
+-- what a group takes from a source, of each item
+amount-small : (item : Item) (s t u : Running) → Sound t → Sound u → Small t → Small u → amount item s t u .size ≤ 100_000_000_000_000
+amount-small directMwh s t u gt gu lt lu = omega (arith, gt .part, lt .b)
+amount-small incrementalMwh s t u gt gu lt lu = omega (arith, level-small t gt lt, level-small u gu lu)
+amount-small directCost s t u gt gu lt lu = omega (arith, paid-small t gt lt)
+amount-small incrementalCost s t u gt gu lt lu =
+    omega (arith, changed-small t lt (level t) (level-small t gt lt), changed-small u lu (level u) (level-small u gu lu))
+
+module _ (h : Hour) (ns : List InternalSequence) where
+  -- where a run stands
+  pub record Bounded (p : Progress) : Type 0 where
+    pub states : (i : ℕ) → Small (stateAt (p .states) i)
+    pub cells : (j i : ℕ) (item : Item) → j < h .ndeliveries → SmallCell (p .cells j i item)
+
+  shared-small : (x : ℕ) (ss ts us : List Running) (cell : Cells) (j i : ℕ) (item : Item) → j < h .ndeliveries → amount item (stateAt ss i) (stateAt ts i) (stateAt us i) .size ≤ 100_000_000_000_000 →
+      SmallCell (cell j i item) → SmallCell (shared h ns x ss ts us cell j i item)
+  unfolding shared
+  shared-small x ss ts us cell j i item l small old = go (member ns x j)
+    where
+      a : Amount
+      a = amount item (stateAt ss i) (stateAt ts i) (stateAt us i)
+
+      go : (y : Bool) → SmallCell (if y then share h ns x a j else cell j i item)
+      go true = let m = share-most h ns x a j l in rw (m .1) (signed-small (a .minus) (m .0) (omega (arith, m .2)))
+      go false = old
+
+  grouped-bounded : (x : ℕ) (p q : Progress) → Balanced h ns (suc x) p → Grouped h ns x p q → Bounded p → Bounded q
+  grouped-bounded x p q b g k =
+      rw (g .is)
+      (record {
+        states = smallAfter;
+        cells = λ j i item l. shared-small x (p .states) ts us (p .cells) j i item l
+            (amount-small item (stateAt (p .states) i) (stateAt ts i) (stateAt us i) (took i .sound) (moved-sound _ _ (took i .sound) (shift-moved (took i .sound) (moves i))) (smallLines i) (smallAfter i)) (k .cells j i item l);
+      })
+    where
+      ts : List Running
+      ts = afterLines h ns x p
+
+      us : List Running
+      us = g .us
+
+      took : (i : ℕ) → Took (stateAt (p .states) i) (stateAt ts i)
+      took i = lines-directed h ns x p b i .took
+
+      moves : (i : ℕ) → Shift (stateAt ts i) (stateAt us i)
+      moves = remainder-moves _ _ _ _ ts us (g .done) .each
+
+      smallLines : (i : ℕ) → Small (stateAt ts i)
+      smallLines i = took-small _ _ (k .states i) (took i)
+
+      smallAfter : (i : ℕ) → Small (stateAt us i)
+      smallAfter i = shift-small (smallLines i) (moves i)
+
+  start-bounded : Ranged h → Bounded (started h ns)
+  start-bounded l = record { states = λ i. rw (started-at h ns i) (opened-small (plantAt h i) (l .plants i)); cells = λ j i item y. omega arith }
+
+  pub groups-bounded : Given h → Ranged h → (k : ℕ) → k ≤ 1000 → (p : Progress) → groups h ns k ≡ accepted p → Balanced h ns (1000 - k) p × Bounded p
+  groups-bounded g l =
+      groups-keep h ns (λ x p. Balanced h ns x p × Bounded p) (start-balanced h ns g, start-bounded l) (λ x p z b. (none-balanced h ns x p (b .0), b .1))
+      (λ x p q b s. (grouped-balanced h ns x p q (b .0) s, grouped-bounded x p q (b .0) s (b .1)))
+
+-- a list of small cells, read anywhere
+
+SmallCells : List ℤ → Type 0
+SmallCells xs = (k : ℕ) → SmallCell (cellAt xs k)
+
+nil-small : SmallCells []
+unfolding SmallCells
+nil-small k = omega arith
+
+cons-small : (x : ℤ) (xs : List ℤ) → SmallCell x → SmallCells xs → SmallCells (x ∷ xs)
+unfolding SmallCells
+cons-small x xs a b zero = a
+cons-small x xs a b (suc k) = b k
+
+append-small : (xs ys : List ℤ) → SmallCells xs → SmallCells ys → SmallCells (xs ++ ys)
+unfolding SmallCells
+append-small [] ys a b k = b k
+append-small (x ∷ xs) ys a b zero = a 0
+append-small (x ∷ xs) ys a b (suc k) = append-small xs ys (λ i. a (suc i)) b k
+
+listTo-small : (f : ℕ → List ℤ) (n : ℕ) → ((i : ℕ) → i < n → SmallCells (f i)) → SmallCells (listTo f n)
+unfolding listTo
+listTo-small f zero h = nil-small
+listTo-small f (suc n) h = append-small (listTo f n) (f n) (listTo-small f n (λ i l. h i (omega arith))) (h n (omega arith))
+
+module _ (h : Hour) (p : Progress) (sound : (i : ℕ) → Sound (stateAt (p .states) i)) (b : Bounded h (numbers h) p) where
+  pair-small : (j i : ℕ) → j < h .ndeliveries → SmallCells (pairCells (p .cells) j i)
+  pair-small j i l =
+      cons-small _ _ (b .cells j i directMwh l) (cons-small _ _ (b .cells j i incrementalMwh l)
+      (cons-small _ _ (b .cells j i directCost l) (cons-small _ _ (b .cells j i incrementalCost l) nil-small)))
+
+  open-small : (i : ℕ) → SmallCells (openCells (p .states) i)
+  open-small i =
+      let s = stateAt (p .states) i in
+      let small = b .states i in
+      cons-small _ _ (omega (arith, small .v)) (cons-small _ _ (omega (arith, changed-small s small (s .d + s .v) (omega (arith, level-small s (sound i) small)))) nil-small)
+
+  cells-small : SmallCells (cellsOf h p)
+  unfolding cellsOf
+  cells-small =
+      append-small _ _ (listTo-small _ (h .ndeliveries) (λ j l. listTo-small (pairCells (p .cells) j) (h .nsources) (λ i m. pair-small j i l)))
+      (listTo-small (openCells (p .states)) (h .nsources) (λ i l. open-small i))
+
+pub answer-small : (h : Hour) → Given h → Ranged h → (xs : List ℤ) → answer h ≡ accepted xs → (k : ℕ) → SmallCell (cellAt xs k)
+unfolding SmallCells reconstructed
+answer-small h g l xs e =
+    let a = answer-cells h xs e in
+    let p = a .progress in
+    let b = groups-bounded h (numbers h) g l 1000 (omega arith) p (a .run) in
+    rw (a .is) (cells-small h p (b .0 .sound) (b .1))
+
+pub answer-fits : (h : Hour) → Given h → Ranged h → (xs : List ℤ) → answer h ≡ accepted xs → (k : ℕ) → SFits w64 (cellAt xs k)
+answer-fits h g l xs e k = record { sfits = go (cellAt xs k) (answer-small h g l xs e k) }
+  where
+    go : (z : ℤ) → SmallCell z → mag z < 2 ^ hbits w64
+    go (pos n) a = omega arith
+    go (negsuc n) a = omega arith
