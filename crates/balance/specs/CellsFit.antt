@@ -12,7 +12,7 @@ use Rattle.balance.specs.AnswerCells.{cellAt, answer-cells}
 use Rattle.balance.specs.HourBalances.{plantAt, Given, started, started-at, afterLines, Grouped, groups-keep, Balanced, lines-directed, start-balanced, none-balanced, grouped-balanced}
 use Rattle.balance.specs.SharesMakeUpTheAmount.{share-most}
 use Rattle.merit.specs.LevelNeverBelowB.{Sound, stateAt, Took, moved-sound}
-use Rattle.merit.specs.NumbersStaySmall.{PlantRanged, Small, level-small, changed-small, paid-small, opened-small, took-small, shift-small}
+use Rattle.merit.specs.NumbersStaySmall.{PlantSmall, Small, level-small, changed-small, paid-small, opened-small, took-small, shift-small}
 use Rattle.merit.specs.RemainderMoves.{Shift, shift-moved, remainder-moves}
 use Rattle.rules.specs.Group.{level, Amount, signed, Item, directMwh, incrementalMwh, directCost, incrementalCost, amount}
 use Rattle.rules.specs.Hour.{numbers, member, share, Cells, Progress, shared, groups, reconstructed, pairCells, openCells, cellsOf, answer}
@@ -22,8 +22,8 @@ use Rattle.rules.specs.declared.Hour.{Hour}
 use Rattle.rules.specs.declared.InternalSequence.{InternalSequence}
 use Rattle.rules.specs.declared.Running.{Running}
 
-pub record Ranged (h : Hour) : Type 0 where
-  pub plants : (i : ℕ) → PlantRanged (plantAt h i)
+pub record SmallHour (h : Hour) : Type 0 where
+  pub plants : (i : ℕ) → PlantSmall (plantAt h i)
 
 abbrev pub SmallCell : ℤ → Type 0
 SmallCell z = natAbs z ≤ 100_000_000_000_000
@@ -86,10 +86,10 @@ module _ (h : Hour) (ns : List InternalSequence) where
       smallAfter : (i : ℕ) → Small (stateAt us i)
       smallAfter i = shift-small (smallLines i) (moves i)
 
-  start-bounded : Ranged h → Bounded (started h ns)
+  start-bounded : SmallHour h → Bounded (started h ns)
   start-bounded l = record { states = λ i. rw (started-at h ns i) (opened-small (plantAt h i) (l .plants i)); cells = λ j i item y. omega arith }
 
-  pub groups-bounded : Given h → Ranged h → (k : ℕ) → k ≤ 1000 → (p : Progress) → groups h ns k ≡ accepted p → Balanced h ns (1000 - k) p × Bounded p
+  pub groups-bounded : Given h → SmallHour h → (k : ℕ) → k ≤ 1000 → (p : Progress) → groups h ns k ≡ accepted p → Balanced h ns (1000 - k) p × Bounded p
   groups-bounded g l =
       groups-keep h ns (λ x p. Balanced h ns x p × Bounded p) (start-balanced h ns g, start-bounded l) (λ x p z b. (none-balanced h ns x p (b .0), b .1))
       (λ x p q b s. (grouped-balanced h ns x p q (b .0) s, grouped-bounded x p q (b .0) s (b .1)))
@@ -137,7 +137,7 @@ module _ (h : Hour) (p : Progress) (sound : (i : ℕ) → Sound (stateAt (p .sta
       append-small _ _ (listTo-small _ (h .ndeliveries) (λ j l. listTo-small (pairCells (p .cells) j) (h .nsources) (λ i m. pair-small j i l)))
       (listTo-small (openCells (p .states)) (h .nsources) (λ i l. open-small i))
 
-pub answer-small : (h : Hour) → Given h → Ranged h → (xs : List ℤ) → answer h ≡ accepted xs → (k : ℕ) → SmallCell (cellAt xs k)
+pub answer-small : (h : Hour) → Given h → SmallHour h → (xs : List ℤ) → answer h ≡ accepted xs → (k : ℕ) → SmallCell (cellAt xs k)
 unfolding SmallCells reconstructed
 answer-small h g l xs e =
     let a = answer-cells h xs e in
@@ -145,7 +145,7 @@ answer-small h g l xs e =
     let b = groups-bounded h (numbers h) g l 1000 (omega arith) p (a .run) in
     rw (a .is) (cells-small h p (b .0 .sound) (b .1))
 
-pub answer-fits : (h : Hour) → Given h → Ranged h → (xs : List ℤ) → answer h ≡ accepted xs → (k : ℕ) → SFits w64 (cellAt xs k)
+pub answer-fits : (h : Hour) → Given h → SmallHour h → (xs : List ℤ) → answer h ≡ accepted xs → (k : ℕ) → SFits w64 (cellAt xs k)
 answer-fits h g l xs e k = record { sfits = go (cellAt xs k) (answer-small h g l xs e k) }
   where
     go : (z : ℤ) → SmallCell z → mag z < 2 ^ hbits w64

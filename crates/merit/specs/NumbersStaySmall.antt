@@ -19,33 +19,33 @@ use Rattle.rules.specs.declared.Plant.the-variants.{Unit as U, Purchase as P, F
 use Rattle.rules.specs.declared.Running.{Running}
 use Rattle.rules.specs.declared.Unit.{Unit}
 
-pub record CurveRanged (curve : HeatCurve) : Type 0 where
+pub record CurveSmall (curve : HeatCurve) : Type 0 where
   pub k : curve .k ≤ 2000
   pub a : curve .a ≤ 999_999
   pub b : curve .b ≤ 99_999
   pub c : curve .c ≤ 99
   pub r : curve .r ≤ 39_996
 
-pub record UnitRanged (u : Unit) : Type 0 where
+pub record UnitSmall (u : Unit) : Type 0 where
   pub g : u .g ≤ 2000
   pub h : u .h ≤ 2000
-  pub curve : CurveRanged (u .curve)
+  pub curve : CurveSmall (u .curve)
 
-abbrev pub PlantRanged : Plant → Type 0
-PlantRanged (U u) = UnitRanged u
-PlantRanged (P g rate) = (g ≤ 2000) × (rate ≤ 999_999)
-PlantRanged (F g) = g ≤ 2000
+abbrev pub PlantSmall : Plant → Type 0
+PlantSmall (U u) = UnitSmall u
+PlantSmall (P g rate) = (g ≤ 2000) × (rate ≤ 999_999)
+PlantSmall (F g) = g ≤ 2000
 
 -- costs
 
-curve-small : (c : HeatCurve) → CurveRanged c → curveCost c 4000 ≤ 100_000_000_000_000
+curve-small : (c : HeatCurve) → CurveSmall c → curveCost c 4000 ≤ 100_000_000_000_000
 unfolding curveCost
 curve-small c l =
     let k : c .k ≤ 4000 = omega (arith, l .k) in
     let x : 2 * c .a + 2 * c .b * 4000 + c .c * 4000 * 4000 ≤ 2_400_000_000 = omega (arith, l .a, l .b, l .c) in
     rw (le-leb (c .k) 4000 k) (omega (arith, mul-le-mul x (l .r)))
 
-pub cost-small : (p : Plant) → PlantRanged p → (m : ℕ) → m ≤ 4000 → cost p m ≤ 100_000_000_000_000
+pub cost-small : (p : Plant) → PlantSmall p → (m : ℕ) → m ≤ 4000 → cost p m ≤ 100_000_000_000_000
 cost-small (U u) l m h = le-trans (cost-grows (U u) m 4000 h) (curve-small (u .curve) (l .curve))
 cost-small (P g rate) l m h = omega (arith, mul-le-mul (l .1) h)
 cost-small (F g) l m h = omega arith
@@ -53,7 +53,7 @@ cost-small (F g) l m h = omega arith
 -- running states
 
 pub record Small (s : Running) : Type 0 where
-  pub plant : PlantRanged (s .plant)
+  pub plant : PlantSmall (s .plant)
   pub v : s .v ≤ 2000
   pub b : s .b ≤ 2000
 
@@ -72,10 +72,10 @@ changed-small s l m h = go (s .based) (leb m (s .b)) refl
 pub paid-small : (s : Running) → Sound s → Small s → s .paid ≤ 100_000_000_000_000
 paid-small s g l = omega (arith, g .paid, changed-small s l (s .d) (omega (arith, g .part, l .b)))
 
-pub opened-small : (p : Plant) → PlantRanged p → Small (opened p)
+pub opened-small : (p : Plant) → PlantSmall p → Small (opened p)
 opened-small p l = record { plant = l; v = go p l; b = omega arith }
   where
-    go : (p : Plant) → PlantRanged p → generation p ≤ 2000
+    go : (p : Plant) → PlantSmall p → generation p ≤ 2000
     go (U u) l = l .g
     go (P g rate) l = l .0
     go (F g) l = l
@@ -94,7 +94,7 @@ raised-small s l t h = go (s .plant) (l .plant) h
     unit true a b y z w = omega (arith, l .v)
     unit false a b y z w = omega (arith, l .v)
 
-    go : (p : Plant) → PlantRanged p → t ≤ headroomOf p s → s .v + t ≤ 2000
+    go : (p : Plant) → PlantSmall p → t ≤ headroomOf p s → s .v + t ≤ 2000
     go (U u) y z = unit (leb (u .e) (level s)) (u .h) (level s) (y .h) z (omega arith)
     go (P g rate) y z = omega (arith, l .v, y .0)
     go (F g) y z = omega (arith, l .v)

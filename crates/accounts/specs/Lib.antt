@@ -1,0 +1,5 @@
+pub mod ValidHour
+pub mod AccountsClose
+pub mod EveryGroupIsDone
+pub mod NetMwhIsTheTotal
+pub mod EveryCellFits
