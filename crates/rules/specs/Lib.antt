@@ -2,6 +2,7 @@ pub mod Words
 pub mod Refusals
 pub mod Ranges
 pub mod Units
+pub mod Answers
 pub mod Sequences
 pub mod Group
 pub mod Hour

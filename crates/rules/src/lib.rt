@@ -1,5 +1,8 @@
-// The types of document 01: an hour record, a source's running state, and a refusal.
-// The rules over them are in specs/, as definitions that compute; this crate holds no code.
+// The types of document 01: an hour record, a source's running state, and a refusal, with the methods that are asked for by name.
+// The rules over them are in specs/, as definitions that compute; all other code stands in the crates above.
+ghost use mathlib.Core.Path.{_≡_};
+ghost use Rattle.rules.specs.Units.{curveMade};
+ghost use Rattle.rules.specs.Answers.{curveAnswer};
 
 // The curve's start k, its coefficients A, B and C in thousandths, and the rate R.
 pub struct HeatCurve {
@@ -8,6 +11,57 @@ pub struct HeatCurve {
     pub b: u32,
     pub c: u32,
     pub r: u32,
+}
+
+// A curve that was made, or why not.
+pub enum CurveAnswer {
+    Made(HeatCurve),
+    Refused(Refusal),
+}
+
+impl HeatCurve {
+    pub const LEAST_START: u32 = 1;
+
+    pub const MOST_START: u32 = 2000;
+
+    pub const MOST_A: u32 = 999_999;
+
+    pub const MOST_B: u32 = 99_999;
+
+    pub const MOST_C: u32 = 99;
+
+    pub const MOST_RATE: u32 = 39_996;
+
+    // A curve only from coefficients within these ranges.
+    pub fn new(k: u32, a: u32, b: u32, c: u32, r: u32) -> CurveAnswer
+        ensures { λ x. ⌜ x ≡ curveAnswer (curveMade (record { k = k; a = a; b = b; c = c; r = r })) ⌝ }
+    {
+        if k < HeatCurve::LEAST_START {
+            return CurveAnswer::Refused(Refusal::Range(0));
+        }
+        if HeatCurve::MOST_START < k {
+            return CurveAnswer::Refused(Refusal::Range(0));
+        }
+        if HeatCurve::MOST_A < a {
+            return CurveAnswer::Refused(Refusal::Range(0));
+        }
+        if HeatCurve::MOST_B < b {
+            return CurveAnswer::Refused(Refusal::Range(0));
+        }
+        if HeatCurve::MOST_C < c {
+            return CurveAnswer::Refused(Refusal::Range(0));
+        }
+        if HeatCurve::MOST_RATE < r {
+            return CurveAnswer::Refused(Refusal::Range(0));
+        }
+        CurveAnswer::Made(HeatCurve {
+            k: k,
+            a: a,
+            b: b,
+            c: c,
+            r: r,
+        })
+    }
 }
 
 // A unit's levels, generation, high, normal low, oil point low and emergency low, and its curve.
