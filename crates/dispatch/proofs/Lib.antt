@@ -1,0 +1,3 @@
+-- Lemmas on plain values for the proofs of this crate.
+mod Lead
+mod Taking

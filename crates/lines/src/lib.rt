@@ -1,0 +1,205 @@
+// Reads a deck's lines, each from the place after its letter to the place after its LF.
+// The contracts cite rules' Lines for what stands in the deck, and Answers for the enum that says it.
+ghost use mathlib.Core.Path.{_≡_};
+ghost use Rattle.rules.specs.Lines.{H as headLetter, U, P, F, T, D, fieldsAt, placesAt};
+ghost use Rattle.lines.specs.Answers.{headLine, curveFields, curveField, unitLine, purchaseLine, fixedLine, deliveryLine, directLine};
+use rules::Basis;
+use rules::HeatCurve;
+use rules::Unit;
+use text::BasisField;
+use text::LabelField;
+use text::NumberField;
+use text::Step;
+
+// Each number is cut as text cuts it; where a label's own bytes start and end; last the place after the line.
+
+// Losses.
+pub enum HeadLine {
+    Read(u32, usize),
+    Malformed,
+}
+
+// internal: used by the unit's reader
+enum CurveField {
+    Read(HeatCurve, usize),
+    Malformed,
+}
+
+pub enum UnitLine {
+    Read(Unit, usize, usize, usize),
+    Malformed,
+}
+
+// Generation and rate.
+pub enum PurchaseLine {
+    Read(u32, u32, usize, usize, usize),
+    Malformed,
+}
+
+// Generation.
+pub enum FixedLine {
+    Read(u32, usize, usize, usize),
+    Malformed,
+}
+
+// Sequence, type, block and MWh.
+pub enum DeliveryLine {
+    Read(u32, u32, u32, u32, usize, usize, usize),
+    Malformed,
+}
+
+// Basis and percent, the unit's label and the delivery's.
+pub enum DirectLine {
+    Read(Basis, u32, usize, usize, usize, usize, usize),
+    Malformed,
+}
+
+pub fn head(s: &[u8], at: usize) -> HeadLine
+    ensures { λ r. ⌜ r ≡ headLine (placesAt (now (s .entry)) at headLetter) ⌝ }
+{
+    let NumberField::Number(losses, p) = text::spaced_number(s, at) else {
+        return HeadLine::Malformed;
+    };
+    let Step::At(next) = text::byte(s, p, 10) else {
+        return HeadLine::Malformed;
+    };
+    HeadLine::Read(losses, next)
+}
+
+// internal: the last five numbers of a unit's line
+fn curve_at(s: &[u8], at: usize) -> CurveField
+    ensures { λ r. ⌜ r ≡ curveField (fieldsAt curveFields (now (s .entry)) at) ⌝ }
+{
+    let NumberField::Number(k, p1) = text::spaced_number(s, at) else {
+        return CurveField::Malformed;
+    };
+    let NumberField::Number(a, p2) = text::spaced_number(s, p1) else {
+        return CurveField::Malformed;
+    };
+    let NumberField::Number(b, p3) = text::spaced_number(s, p2) else {
+        return CurveField::Malformed;
+    };
+    let NumberField::Number(c, p4) = text::spaced_number(s, p3) else {
+        return CurveField::Malformed;
+    };
+    let NumberField::Number(r, next) = text::spaced_number(s, p4) else {
+        return CurveField::Malformed;
+    };
+    CurveField::Read(HeatCurve { k, a, b, c, r }, next)
+}
+
+pub fn unit(s: &[u8], at: usize) -> UnitLine
+    ensures { λ r. ⌜ r ≡ unitLine (placesAt (now (s .entry)) at U) ⌝ }
+{
+    let NumberField::Number(g, p1) = text::spaced_number(s, at) else {
+        return UnitLine::Malformed;
+    };
+    let NumberField::Number(h, p2) = text::spaced_number(s, p1) else {
+        return UnitLine::Malformed;
+    };
+    let NumberField::Number(n, p3) = text::spaced_number(s, p2) else {
+        return UnitLine::Malformed;
+    };
+    let NumberField::Number(o, p4) = text::spaced_number(s, p3) else {
+        return UnitLine::Malformed;
+    };
+    let NumberField::Number(e, p5) = text::spaced_number(s, p4) else {
+        return UnitLine::Malformed;
+    };
+    let CurveField::Read(curve, p6) = curve_at(s, p5) else {
+        return UnitLine::Malformed;
+    };
+    let LabelField::At(from, upto, p7) = text::spaced_label(s, p6) else {
+        return UnitLine::Malformed;
+    };
+    let Step::At(next) = text::byte(s, p7, 10) else {
+        return UnitLine::Malformed;
+    };
+    let u = Unit {
+        g,
+        h,
+        n,
+        o,
+        e,
+        curve,
+    };
+    UnitLine::Read(u, from, upto, next)
+}
+
+pub fn purchase(s: &[u8], at: usize) -> PurchaseLine
+    ensures { λ r. ⌜ r ≡ purchaseLine (placesAt (now (s .entry)) at P) ⌝ }
+{
+    let NumberField::Number(g, p) = text::spaced_number(s, at) else {
+        return PurchaseLine::Malformed;
+    };
+    let NumberField::Number(rate, q) = text::spaced_number(s, p) else {
+        return PurchaseLine::Malformed;
+    };
+    let LabelField::At(from, upto, d) = text::spaced_label(s, q) else {
+        return PurchaseLine::Malformed;
+    };
+    let Step::At(next) = text::byte(s, d, 10) else {
+        return PurchaseLine::Malformed;
+    };
+    PurchaseLine::Read(g, rate, from, upto, next)
+}
+
+pub fn fixed(s: &[u8], at: usize) -> FixedLine
+    ensures { λ r. ⌜ r ≡ fixedLine (placesAt (now (s .entry)) at F) ⌝ }
+{
+    let NumberField::Number(g, p) = text::spaced_number(s, at) else {
+        return FixedLine::Malformed;
+    };
+    let LabelField::At(from, upto, d) = text::spaced_label(s, p) else {
+        return FixedLine::Malformed;
+    };
+    let Step::At(next) = text::byte(s, d, 10) else {
+        return FixedLine::Malformed;
+    };
+    FixedLine::Read(g, from, upto, next)
+}
+
+pub fn delivery(s: &[u8], at: usize) -> DeliveryLine
+    ensures { λ r. ⌜ r ≡ deliveryLine (placesAt (now (s .entry)) at T) ⌝ }
+{
+    let NumberField::Number(sequence, p1) = text::spaced_number(s, at) else {
+        return DeliveryLine::Malformed;
+    };
+    let NumberField::Number(kind, p2) = text::spaced_number(s, p1) else {
+        return DeliveryLine::Malformed;
+    };
+    let NumberField::Number(block, p3) = text::spaced_number(s, p2) else {
+        return DeliveryLine::Malformed;
+    };
+    let NumberField::Number(mwh, p4) = text::spaced_number(s, p3) else {
+        return DeliveryLine::Malformed;
+    };
+    let LabelField::At(from, upto, d) = text::spaced_label(s, p4) else {
+        return DeliveryLine::Malformed;
+    };
+    let Step::At(next) = text::byte(s, d, 10) else {
+        return DeliveryLine::Malformed;
+    };
+    DeliveryLine::Read(sequence, kind, block, mwh, from, upto, next)
+}
+
+pub fn direct(s: &[u8], at: usize) -> DirectLine
+    ensures { λ r. ⌜ r ≡ directLine (placesAt (now (s .entry)) at D) ⌝ }
+{
+    let BasisField::Basis(basis, p) = text::spaced_basis(s, at) else {
+        return DirectLine::Malformed;
+    };
+    let NumberField::Number(percent, q) = text::spaced_number(s, p) else {
+        return DirectLine::Malformed;
+    };
+    let LabelField::At(from, upto, d) = text::spaced_label(s, q) else {
+        return DirectLine::Malformed;
+    };
+    let LabelField::At(begin, end, f) = text::spaced_label(s, d) else {
+        return DirectLine::Malformed;
+    };
+    let Step::At(next) = text::byte(s, f, 10) else {
+        return DirectLine::Malformed;
+    };
+    DirectLine::Read(basis, percent, from, upto, begin, end, next)
+}

@@ -1,0 +1,3 @@
+pub mod Lines
+pub mod Deck
+pub mod Verdict

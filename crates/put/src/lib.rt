@@ -1,0 +1,195 @@
+// Writing an hour record as a deck, line by line into a buffer of the writer's own, and over to a lent one where it fits.
+// Contracts cite Room and Inked of ink, and lineText, deckText, valid, writing and leaves of rules.
+ghost use mathlib.Core.Path.{_≡_};
+ghost use mathlib.Core.Bool.{true};
+ghost use mathlib.Core.List.{[], _++_};
+ghost use Prim.Native.Nat.{_≤_};
+ghost use lib.ListN.{length, drop};
+ghost use Rattle.rules.specs.Lines.{lineText};
+ghost use Rattle.rules.specs.Record.{chars, sourceLine, deliveryLine, endLine};
+ghost use Rattle.rules.specs.Writing.{deckText, valid};
+ghost use Rattle.rules.specs.Calls.{writing, leaves};
+ghost use Rattle.ink.specs.Inked.{Room, Inked, upTo};
+ghost use Rattle.put.specs.Lines.{nameText, entryText, headLineOf, directLineOf};
+ghost use Rattle.put.specs.Deck.{sourceText, deliveryText, directText};
+ghost use Rattle.put.specs.Verdict.{wroteOf};
+use rules::Basis;
+use rules::Delivery;
+use rules::Hour;
+use rules::Label;
+use rules::Plant;
+use rules::Source;
+use rules::Unit;
+
+// A space and a label.
+fn put_name(buf: &mut [u8], at: usize, l: Label) -> usize
+    requires { ⌜ Room (now buf) at (nameText (chars l) []) ⌝ }
+    ensures { λ r. ⌜ Inked (now (buf .entry)) at (now (buf .exit)) r (nameText (chars l)) ⌝ }
+{
+    let p = ink::put_byte(buf, at, 32);
+    ink::put_label(buf, p, l)
+}
+
+// A line of a letter, numbers and a label.
+fn put_entry(buf: &mut [u8], at: usize, letter: u8, vs: &[u32], l: Label) -> usize
+    requires { ⌜ Room (now buf) at (entryText letter (now vs) (chars l) []) ⌝ }
+    ensures { λ r. ⌜ Inked (now (buf .entry)) at (now (buf .exit)) r (entryText letter (now (vs .entry)) (chars l)) ⌝ }
+{
+    let p = ink::put_byte(buf, at, letter);
+    let q = ink::put_numbers(buf, p, vs);
+    let r = put_name(buf, q, l);
+    ink::put_byte(buf, r, 10)
+}
+
+fn put_head(buf: &mut [u8], at: usize, losses: u32) -> usize
+    requires { ⌜ Room (now buf) at (lineText (headLineOf losses) []) ⌝ }
+    ensures { λ r. ⌜ Inked (now (buf .entry)) at (now (buf .exit)) r (lineText (headLineOf losses)) ⌝ }
+{
+    let p = ink::put_byte(buf, at, 72);
+    let q = ink::put_spaced(buf, p, losses);
+    ink::put_byte(buf, q, 10)
+}
+
+fn put_end(buf: &mut [u8], at: usize) -> usize
+    requires { ⌜ Room (now buf) at (lineText endLine []) ⌝ }
+    ensures { λ r. ⌜ Inked (now (buf .entry)) at (now (buf .exit)) r (lineText endLine) ⌝ }
+{
+    ink::put_two(buf, at, 69, 10)
+}
+
+fn put_source(buf: &mut [u8], at: usize, x: Source) -> usize
+    requires { ⌜ Room (now buf) at (lineText (sourceLine x) []) ⌝ }
+    ensures { λ r. ⌜ Inked (now (buf .entry)) at (now (buf .exit)) r (lineText (sourceLine x)) ⌝ }
+{
+    let p = x.plant;
+    let l = x.label;
+    match p {
+        Plant::Unit(u) => {
+            let c = u.curve;
+            let vs = [u.g, u.h, u.n, u.o, u.e, c.k, c.a, c.b, c.c, c.r];
+            put_entry(buf, at, 85, &vs, l)
+        }
+        Plant::Purchase { g, rate } => {
+            let vs = [g, rate];
+            put_entry(buf, at, 80, &vs, l)
+        }
+        Plant::Fixed { g } => {
+            let vs = [g];
+            put_entry(buf, at, 70, &vs, l)
+        }
+    }
+}
+
+fn put_delivery(buf: &mut [u8], at: usize, x: Delivery) -> usize
+    requires { ⌜ Room (now buf) at (lineText (deliveryLine x) []) ⌝ }
+    ensures { λ r. ⌜ Inked (now (buf .entry)) at (now (buf .exit)) r (lineText (deliveryLine x)) ⌝ }
+{
+    let s = x.sequence;
+    let l = x.label;
+    let vs = [s.0, x.kind, x.block, x.mwh];
+    put_entry(buf, at, 84, &vs, l)
+}
+
+fn put_direct(
+    buf: &mut [u8],
+    at: usize,
+    x: Basis,
+    percent: u32,
+    unit: Label,
+    delivery: Label,
+) -> usize
+    requires { ⌜ Room (now buf) at (lineText (directLineOf x percent (chars unit) (chars delivery)) []) ⌝ }
+    ensures { λ r. ⌜ Inked (now (buf .entry)) at (now (buf .exit)) r (lineText (directLineOf x percent (chars unit) (chars delivery))) ⌝ }
+{
+    let p = ink::put_two(buf, at, 68, 32);
+    let q = ink::put_basis(buf, p, x);
+    let r = ink::put_spaced(buf, q, percent);
+    let s = put_name(buf, r, unit);
+    let t = put_name(buf, s, delivery);
+    ink::put_byte(buf, t, 10)
+}
+
+fn put_sources(buf: &mut [u8], at: usize, h: Hour) -> usize
+    requires { ⌜ (valid h ≡ true) × Room (now buf) at (upTo (sourceText h) (h .nsources) []) ⌝ }
+    ensures { λ r. ⌜ Inked (now (buf .entry)) at (now (buf .exit)) r (upTo (sourceText h) (h .nsources)) ⌝ }
+{
+    let n = h.nsources;
+    let mut p = at;
+    let mut i = 0;
+    while i < n {
+        let x = h.sources[i];
+        p = put_source(buf, p, x);
+        i += 1;
+    }
+    p
+}
+
+fn put_deliveries(buf: &mut [u8], at: usize, h: Hour) -> usize
+    requires { ⌜ (valid h ≡ true) × Room (now buf) at (upTo (deliveryText h) (h .ndeliveries) []) ⌝ }
+    ensures { λ r. ⌜ Inked (now (buf .entry)) at (now (buf .exit)) r (upTo (deliveryText h) (h .ndeliveries)) ⌝ }
+{
+    let n = h.ndeliveries;
+    let mut p = at;
+    let mut i = 0;
+    while i < n {
+        let x = h.deliveries[i];
+        p = put_delivery(buf, p, x);
+        i += 1;
+    }
+    p
+}
+
+fn put_directs(buf: &mut [u8], at: usize, h: Hour) -> usize
+    requires { ⌜ (valid h ≡ true) × Room (now buf) at (upTo (directText h) (h .ndirects) []) ⌝ }
+    ensures { λ r. ⌜ Inked (now (buf .entry)) at (now (buf .exit)) r (upTo (directText h) (h .ndirects)) ⌝ }
+{
+    let n = h.ndirects;
+    let mut p = at;
+    let mut i = 0;
+    while i < n {
+        let x = h.directs[i];
+        let s = x.source;
+        let d = x.delivery;
+        let basis = x.basis;
+        let source = h.sources[s];
+        let delivery = h.deliveries[d];
+        let unit = source.label;
+        let name = delivery.label;
+        p = put_direct(buf, p, basis, x.percent, unit, name);
+        i += 1;
+    }
+    p
+}
+
+// The whole deck, from the buffer's start on; gives its length.
+pub fn put_deck(buf: &mut [u8], h: Hour) -> usize
+    requires { ⌜ (valid h ≡ true) × (length (deckText h) ≤ length (now buf)) ⌝ }
+    ensures size { λ r. ⌜ r ≡ length (deckText h) ⌝ }
+    ensures bytes { λ r. ⌜ now (buf .exit) ≡ deckText h ++ drop (length (deckText h)) (now (buf .entry)) ⌝ }
+{
+    let p = put_head(buf, 0, h.losses);
+    let q = put_sources(buf, p, h);
+    let r = put_deliveries(buf, q, h);
+    let s = put_directs(buf, r, h);
+    put_end(buf, s)
+}
+
+pub enum Wrote {
+    Bytes(usize),
+    Short,
+}
+
+// The deck of a valid hour into a lent buffer: 14, and nothing changed, where that is too short.
+pub fn write_valid(h: Hour, out: &mut [u8]) -> Wrote
+    requires { ⌜ valid h ≡ true ⌝ }
+    ensures outcome { λ r. ⌜ r ≡ wroteOf (writing h (length (now (out .entry)))) ⌝ }
+    ensures bytes { λ r. ⌜ now (out .exit) ≡ leaves (writing h (length (now (out .entry)))) (now (out .entry)) ⌝ }
+{
+    let mut deck = [0u8; 8192];
+    let n = put_deck(&mut deck, h);
+    if out.len() < n {
+        return Wrote::Short;
+    }
+    ink::put_bytes(out, 0, &deck[0..n]);
+    Wrote::Bytes(n)
+}
