@@ -1,6 +1,8 @@
 // The types of document 01: an hour record, a source's running state, and a refusal, with the methods that are asked for by name.
 // The rules over them are in specs/, as definitions that compute; all other code stands in the crates above.
+ghost use mathlib.Core.Bool.{true};
 ghost use mathlib.Core.Path.{_≡_};
+ghost use Prim.Native.Nat.{_+_, _-_, _≤_};
 ghost use Rattle.rules.specs.Units.{curveMade};
 ghost use Rattle.rules.specs.Answers.{curveAnswer};
 
@@ -140,6 +142,25 @@ pub struct Running {
     pub based: bool,
     pub percent: u32,
     pub paid: u64,
+}
+
+impl Running {
+    // The state after a direct allocation: mwh taken in all, of the basic amount b, at a percent total and for what was paid in all.
+    pub fn with_direct(self, mwh: u32, b: u32, percent: u32, paid: u64) -> Running
+        requires { ⌜ (self .d ≤ mwh) × (mwh ≤ self .v + self .d) ⌝ }
+        ensures { λ r. ⌜ r ≡ record { plant = self .plant; v = self .v - (mwh - self .d); d = mwh; b = b; based = true; percent = percent; paid = paid } ⌝ }
+    {
+        let p = self.plant;
+        Running {
+            plant: p,
+            v: self.v - (mwh - self.d),
+            d: mwh,
+            b: b,
+            based: true,
+            percent: percent,
+            paid: paid,
+        }
+    }
 }
 
 // Why a call refuses, 1 to 15 in their order, with the line or the internal number that it names.
