@@ -1,0 +1,73 @@
+-- `deck::delivery_at` meets its contract: the line, its label where it stands, and the rules tried.
+use mathlib.Core.Path.{sym, _∙_}
+use Rattle.lines.specs.Cut.{LabelStands}
+use Rattle.deck.specs.Steps as steps
+use Rattle.deck.specs.LabelsTold.{delivery-told}
+use borrow.Author.Needs.{needs}
+use Rattle.deck.proofs.delivery_at.Statement.{statement}
+use Rattle.deck.proofs.delivery_at.Tie as tie
+
+stands : (c : tie.After-known-told) → LabelStands (c .before .before .before .before .before .args .s .now) (record { from = c .before .sequence .given .0 .1 .1 .1 .1 .0; upto = c .before .sequence .given .0 .1 .1 .1 .1 .1 .0 })
+stands c = delivery-told (c .before .before .before .before .before .args .s .now) (c .before .before .before .before .before .args .at) (c .before .sequence .given .0 .0) (c .before .sequence .given .0 .1 .0) (c .before .sequence .given .0 .1 .1 .0) (c .before .sequence .given .0 .1 .1 .1 .0) (c .before .sequence .given .0 .1 .1 .1 .1 .0) (c .before .sequence .given .0 .1 .1 .1 .1 .1 .0) (c .before .sequence .given .0 .1 .1 .1 .1 .1 .1 .0) (sym (c .before .before .before .delivery .ensures) ∙ c .before .sequence .given .1)
+
+delivery-requires : tie.Need-delivery-requires
+delivery-requires c κs = search needs
+
+enum-known-sequence : tie.Need-enum-known-sequence
+enum-known-sequence c = search needs
+
+enum-told : tie.Need-enum-told
+enum-told c = search needs
+
+next-line-requires : tie.Need-next-line-requires
+next-line-requires c κs = search needs
+
+delivery-refused-requires : tie.Need-delivery-refused-requires
+delivery-refused-requires c κs = search needs
+
+returns : tie.Need-returns
+returns c = rw (← (c .before .before .before .before .delivery .ensures), c .before .before .enum-told .given .1, c .delivery-refused .ensures, c .before .next-line .ensures)
+
+sub-label-at : tie.Need-sub-label-at
+sub-label-at c = stands c .order
+
+part-label-at-start : tie.Need-part-label-at-start
+part-label-at-start c = stands c .order
+
+part-label-at-end : tie.Need-part-label-at-end
+part-label-at-end c = stands c .within
+
+label-at-requires : tie.Need-label-at-requires
+label-at-requires c κs = stands (c .before) .few
+
+key-of-requires : tie.Need-key-of-requires
+key-of-requires c κs = search needs
+
+delivery-in-range-requires : tie.Need-delivery-in-range-requires
+delivery-in-range-requires c κs = search needs
+
+take-delivery-requires : tie.Need-take-delivery-requires
+take-delivery-requires c κs = search needs
+
+returns-2 : tie.Need-returns-2
+unfolding steps.deliveryTook
+returns-2 c = rw (← (c .before .before .before .before .before .before .before .before .delivery .ensures), c .before .before .before .before .before .before .sequence .given .1, c .take-delivery .ensures, c .before .delivery-in-range .ensures, c .before .before .key-of .ensures, c .before .before .before .label-at .ensures)
+
+pub delivery-at-spec : {M : Type 1} → statement M
+delivery-at-spec =
+    tie.close
+    (tie.spec
+    delivery-requires
+    enum-known-sequence
+    enum-told
+    next-line-requires
+    delivery-refused-requires
+    returns
+    sub-label-at
+    part-label-at-start
+    part-label-at-end
+    label-at-requires
+    key-of-requires
+    delivery-in-range-requires
+    take-delivery-requires
+    returns-2)

@@ -1,0 +1,43 @@
+-- `deck::fixed_at` meets its contract: the line, and its label where it stands.
+use mathlib.Core.Path.{sym, _∙_}
+use Rattle.deck.specs.LabelsTold.{fixed-told}
+use borrow.Author.Needs.{needs}
+use Rattle.deck.proofs.fixed_at.Statement.{statement}
+use Rattle.deck.proofs.fixed_at.Tie as tie
+
+fixed-requires : tie.Need-fixed-requires
+fixed-requires c κs = search needs
+
+enum-known-g : tie.Need-enum-known-g
+enum-known-g c = search needs
+
+enum-told : tie.Need-enum-told
+enum-told c = search needs
+
+next-line-requires : tie.Need-next-line-requires
+next-line-requires c κs = search needs
+
+source-refused-requires : tie.Need-source-refused-requires
+source-refused-requires c κs = search needs
+
+returns : tie.Need-returns
+returns c = rw (← (c .before .before .before .before .fixed .ensures), c .before .before .enum-told .given .1, c .source-refused .ensures, c .before .next-line .ensures)
+
+try-source-requires : tie.Need-try-source-requires
+try-source-requires c κs = (c .before .before .before .before .before .pre, fixed-told (c .before .before .before .before .before .args .s .now) (c .before .before .before .before .before .args .at) (c .before .g .given .0 .0) (c .before .g .given .0 .1 .0) (c .before .g .given .0 .1 .1 .0) (c .before .g .given .0 .1 .1 .1 .0) (sym (c .before .before .before .fixed .ensures) ∙ c .before .g .given .1))
+
+returns-2 : tie.Need-returns-2
+returns-2 c = rw (← (c .before .before .before .before .fixed .ensures), c .before .before .g .given .1) (c .try-source .ensures)
+
+pub fixed-at-spec : {M : Type 1} → statement M
+fixed-at-spec =
+    tie.close
+    (tie.spec
+    fixed-requires
+    enum-known-g
+    enum-told
+    next-line-requires
+    source-refused-requires
+    returns
+    try-source-requires
+    returns-2)

@@ -1,0 +1,52 @@
+-- `deck::source_label` meets its contract: the bytes at the source's place are the part that is asked for.
+use mathlib.Core.Path.{_∙_}
+use Rattle.rules.specs.Reading.{reading}
+use Rattle.rules.specs.Calls as calls
+use Rattle.rules.specs.Calls.{sourcePartOf}
+use Rattle.deck.specs.Rows.{part-past}
+use borrow.Author.Needs.{needs}
+use Rattle.deck.proofs.source_label.Statement.{statement}
+use Rattle.deck.proofs.source_label.Tie as tie
+
+scan-requires : tie.Need-scan-requires
+scan-requires c κs = search needs
+
+sub-result : tie.Need-sub-result
+sub-result c = search needs
+
+part-result-start : tie.Need-part-result-start
+part-result-start c = search needs
+
+part-result-end : tie.Need-part-result-end
+part-result-end c = search needs
+
+returns : tie.Need-returns
+unfolding calls.sourcePart
+returns c = part-past (c .before .before .before .before .args .s .now) (sourcePartOf (reading (c .before .before .before .before .args .s .now))) (c .before .before .scan .result .sources) (c .before .before .before .before .args .i) (c .before .before .scan .ensures .sources) (c .before .if1 .taken)
+
+mul-p : tie.Need-mul-p
+mul-p c = search needs
+
+element-copy-out-p : tie.Need-element-copy-out-p
+element-copy-out-p c = search needs
+
+part-at-requires : tie.Need-part-at-requires
+part-at-requires c κs = let p = c .before .before .scan .ensures .sources .each (c .before .before .before .before .args .i) in (p .order, p .within)
+
+returns-2 : tie.Need-returns-2
+unfolding calls.sourcePart
+returns-2 c = c .part-at .ensures ∙ c .before .before .before .scan .ensures .sources .each (c .before .before .before .before .before .args .i) .bytes
+
+pub source-label-spec : {M : Type 1} → statement M
+source-label-spec =
+    tie.close
+    (tie.spec
+    scan-requires
+    sub-result
+    part-result-start
+    part-result-end
+    returns
+    mul-p
+    element-copy-out-p
+    part-at-requires
+    returns-2)

@@ -1,0 +1,7 @@
+pub mod Answers
+pub mod Steps
+pub mod LabelBytes
+pub mod LabelsTold
+pub mod Turns
+pub mod Rows
+pub mod Head

@@ -1,0 +1,221 @@
+-- What the loop over a deck's lines keeps, turn by turn, and what each way out of it gives.
+use mathlib.Core.Path.{_≡_, refl, ap, sym, subst, _∙_}
+use mathlib.Core.Bool.{Bool, true, false}
+use mathlib.Core.List.{List, []}
+use mathlib.Core.Option.{some}
+use Prim.Native.Nat.{ℕ, zero, suc, _+_, _<_, _≤_}
+use native.Mathlib.Decide.{ℕ-discrete}
+use native.Mathlib.Omega.{arith}
+use lib.Dec.{ltb, eqb}
+use lib.ListN.{length, getD, set, replicate, length-set, List·getD-eq-default}
+use lib.Seq.{getD-set-same, getD-set-other}
+use borrow.Author.Tests.{lt-ltb, le-ltb, ltb-true, ltb-false, eqb-true, eq-eqb}
+use Rattle.rules.specs.Words.{if_then_else_}
+use Rattle.rules.specs.Refusals.{Outcome, accepted, refused}
+use Rattle.rules.specs.Sequences.{noDelivery}
+use Rattle.rules.specs.Fields.{Field, got, malformed, byte, byteAt, escape}
+use Rattle.rules.specs.Lines as lines
+use Rattle.rules.specs.Lines.{E, letterOf, line, placesAt}
+use Rattle.rules.specs.Record as record-of
+use Rattle.rules.specs.Record.{chars, noSource, started, withSource, withDelivery, withDirect}
+use Rattle.rules.specs.Reading.{lineNumber, finished, linesFrom}
+use Rattle.rules.specs.Calls.{sourcePartOf, deliveryPartOf}
+use Rattle.rules.specs.declared.Label.{Label}
+use Rattle.rules.specs.declared.Source.{Source}
+use Rattle.rules.specs.declared.Delivery.{Delivery}
+use Rattle.rules.specs.declared.Direct.{Direct}
+use Rattle.rules.specs.declared.Hour.{Hour}
+use Rattle.rules.specs.declared.Refusal.{Refusal}
+use Rattle.rules.specs.declared.Refusal.the-variants.{Form}
+use Rattle.roundtrip.specs.Taken.{finished-passed}
+use Rattle.roundtrip.specs.Loop.{Going, goes-malformed, goes-end, goes-past}
+use Rattle.text.specs.Answers.{stepOf}
+use Rattle.hour.specs.Tried.{verdictOf, Tables, unitHigh, basisCode}
+use Rattle.hour.specs.Kept.{Kept}
+use Rattle.hour.specs.TablesKept.{noTables, kept-started}
+use Rattle.hour.specs.declared.Verdict.{Verdict}
+use Rattle.hour.specs.declared.Verdict.the-variants.{Accepted, Refused}
+use Rattle.deck.specs.Answers.{readAnswer, nowhere, bytesOf, Holds, Placed, Scanned, refusedScan}
+use Rattle.deck.specs.Steps.{endVerdict}
+use Rattle.deck.specs.Turns.{line-got, line-malformed, line-none, SourceTurn, DeliveryTurn, DirectTakes}
+use Rattle.deck.specs.declared.Place.{Place}
+use Rattle.deck.specs.declared.ScannedDeck.{ScannedDeck}
+use Rattle.deck.specs.declared.SourceStep.{SourceStep}
+use Rattle.deck.specs.declared.DeliveryStep.{DeliveryStep}
+
+-- Places.
+
+getD-same : {A : Type 0} (n i : ℕ) (a : A) → getD (replicate n a) i a ≡ a
+getD-same zero i a = refl
+getD-same (suc n) zero a = refl
+getD-same (suc n) (suc i) a = getD-same n i a
+
+module _ (s : List ℕ) where
+  placed-none : (part : ℕ → List ℕ) → ((i : ℕ) → part i ≡ []) → Placed s part (replicate 32 nowhere)
+  placed-none part empty =
+      record {
+        size = refl;
+        each = λ i. rw (getD-same 32 i nowhere) (record { order = omega arith; within = omega arith; bytes = sym (empty i) });
+      }
+
+  -- the labels of the first n entries of a class
+  module _ {A : Type 0} (label : A → Label) (default : A) where
+    abbrev partOf : List A → ℕ → ℕ → List ℕ
+    partOf xs n i = if ltb i n then escape (chars (label (getD xs i default))) else []
+
+    placed-more : (xs : List A) (n : ℕ) (x : A) (ps : List Place) (p : Place) → n < 32 → length xs ≡ 32 → Holds s (escape (chars (label x))) p → Placed s (partOf xs n) ps
+        → Placed s (partOf (set xs n x) (n + 1)) (set ps n p)
+    placed-more xs n x ps p lt size holds e =
+        let l = e .size in
+        record {
+          size = simp length-set (e .size);
+          each = λ i. elim (ℕ-discrete i n) [
+            | yes k ↦ rw (k, getD-set-same ps n p nowhere (omega arith), getD-set-same xs n x default (omega arith), lt-ltb n (n + 1) (omega arith)) holds
+            | no k ↦ rw (getD-set-other ps n i p nowhere (λ q. k (q)), getD-set-other xs n i x default (λ q. k (q)), still i k) (e .each i)
+          ];
+        }
+      where
+        still : (i : ℕ) → (i ≡ n → ⊥) → ltb i (n + 1) ≡ ltb i n
+        still i k = go (ltb i n) refl
+          where
+            go : (b : Bool) → ltb i n ≡ b → ltb i (n + 1) ≡ b
+            go true b = lt-ltb i (n + 1) (omega (arith, ltb-true i n b))
+            go false b = le-ltb i (n + 1) (let q : i ≡ n → ⊥ = k in omega (arith, ltb-false i n b))
+
+-- What the loop keeps.
+
+pub record Rows (s : List ℕ) (o : Outcome Hour) (h : Hour) (t : Tables) (ps qs : List Place) (at : ℕ) : Type 0 where
+  pub going : Going s h at o
+  pub kept : Kept h t
+  pub sources : Placed s (sourcePartOf (accepted h)) ps
+  pub deliveries : Placed s (deliveryPartOf (accepted h)) qs
+
+rows-start : (s : List ℕ) (losses from : ℕ) → Rows s (linesFrom (length s) s (started losses) from) (started losses) noTables (replicate 32 nowhere) (replicate 32 nowhere) from
+unfolding record-of.started
+rows-start s losses from =
+    record {
+      going = record { fuel = length s; enough = omega arith; same = refl };
+      kept = kept-started losses;
+      sources = placed-none s _ (λ i. rw (le-ltb i 0 (omega arith)));
+      deliveries = placed-none s _ (λ i. rw (le-ltb i 0 (omega arith)));
+    }
+
+-- the loop's start, with the hour that an H line starts
+pub rows-started : (s : List ℕ) (losses from : ℕ) (h : Hour) → h ≡ started losses
+    → Rows s (linesFrom (length s) s (started losses) from) h noTables (replicate 32 nowhere) (replicate 32 nowhere) from
+rows-started s losses from h e = rw e (rows-start s losses from)
+
+scanned-refused : (s : List ℕ) (o : Outcome Hour) (r : Refusal) → o ≡ refused r → Scanned s o (refusedScan r)
+scanned-refused s o r e = rw e (record { answer = refl; sources = placed-none s _ (λ i. refl); deliveries = placed-none s _ (λ i. refl) })
+
+pub answer-refused : (s : List ℕ) (o : Outcome Hour) (r : Refusal) (x : ScannedDeck) → x ≡ refusedScan r → o ≡ refused r → Scanned s o x
+answer-refused s o r x e k = subst (Scanned s o) (sym e) (scanned-refused s o r k)
+
+module _ (s : List ℕ) (o : Outcome Hour) (h : Hour) (t : Tables) (ps qs : List Place) (at : ℕ) (w : Rows s o h t ps qs at) where
+  -- One entry more.
+
+  pub rows-source : (r : SourceStep) → SourceTurn s h t at r → r .verdict ≡ Accepted → (high : ℕ) → high ≡ unitHigh (r .entry .plant)
+      → Rows s o (withSource h (r .entry))
+      (record { slo = set (t .slo) (h .nsources) (r .key .lo); shi = set (t .shi) (h .nsources) (r .key .hi); tlo = t .tlo; thi = t .thi; high = set (t .high) (h .nsources) high; based = t .based; percents = t .percents })
+      (set ps (h .nsources) (r .place)) qs (r .next)
+  rows-source r e v high he =
+      let k = e .takes v in
+      record {
+        going = k .goes o (w .going);
+        kept = rw (he, k .keyed) (k .kept);
+        sources = placed-more s (λ (x : Source). x .label) noSource (h .sources) (h .nsources) (r .entry) ps (r .place) (k .room) (w .kept .sources-size) (k .holds) (w .sources);
+        deliveries = w .deliveries;
+      }
+
+  pub rows-delivery : (r : DeliveryStep) → DeliveryTurn s h t at r → r .verdict ≡ Accepted
+      → Rows s o (withDelivery h (r .entry))
+      (record { slo = t .slo; shi = t .shi; tlo = set (t .tlo) (h .ndeliveries) (r .key .lo); thi = set (t .thi) (h .ndeliveries) (r .key .hi); high = t .high; based = t .based; percents = t .percents })
+      ps (set qs (h .ndeliveries) (r .place)) (r .next)
+  rows-delivery r e v =
+      let k = e .takes v in
+      record {
+        going = k .goes o (w .going);
+        kept = rw (k .keyed) (k .kept);
+        sources = w .sources;
+        deliveries = placed-more s (λ (x : Delivery). x .label) noDelivery (h .deliveries) (h .ndeliveries) (r .entry) qs (r .place) (k .room) (w .kept .deliveries-size) (k .holds) (w .deliveries);
+      }
+
+  pub rows-direct : (y : Direct) (next : ℕ) → DirectTakes s h t at y next → (code : ℕ) → code ≡ basisCode (y .basis)
+      → Rows s o (withDirect h y)
+      (record { slo = t .slo; shi = t .shi; tlo = t .tlo; thi = t .thi; high = t .high; based = set (t .based) (y .source) code; percents = set (t .percents) (y .source) (getD (t .percents) (y .source) 0 + y .percent) })
+      ps qs next
+  rows-direct y next k code ce = record { going = k .goes o (w .going); kept = rw ce (k .kept); sources = w .sources; deliveries = w .deliveries }
+
+  -- Ways out.
+
+  pub rows-ended : length s ≤ at → o ≡ refused (Form (lineNumber h))
+  unfolding lines.letterOf
+  rows-ended le = goes-malformed s h at o (w .going) (line-none s at (rw (List·getD-eq-default s 0 le)))
+
+  -- at E: it, or what stands after it, refuses the deck, or the hour is whole
+  end-refuses : byte s at ≡ 69 → (r : Refusal) → endVerdict (length s) (lineNumber h) (stepOf (byteAt s (at + 1) 10)) ≡ Refused r → o ≡ refused r
+  unfolding lines.letterOf lines.placesAt lines.fieldsAt
+  end-refuses be r = go (byteAt s (at + 1) 10) refl
+    where
+      b : letterOf (byte s at) ≡ some E
+      b = ap letterOf be
+
+      past : (next : ℕ) → byteAt s (at + 1) 10 ≡ got tt next → (z : Bool) → eqb next (length s) ≡ z
+          → (if z then Accepted else Refused (Form (lineNumber h + 1))) ≡ Refused r → o ≡ refused r
+      past next e true ze k = let z : _≡_ {A = ℕ} 0 1 = cc in absurd (omega arith)
+      past next e false ze k =
+          let is : Form (lineNumber h + 1) ≡ r = cc in
+          goes-past s h at o (w .going) (line E tt) next (line-got s at E b tt next (rw e)) refl (λ q. let y : true ≡ false = sym (eq-eqb next (length s) q) ∙ ze in let z : _≡_ {A = ℕ} 0 1 = cc in omega arith)
+          ∙ ap refused is
+
+      go : (x : Field (Unit {0})) → byteAt s (at + 1) 10 ≡ x → endVerdict (length s) (lineNumber h) (stepOf x) ≡ Refused r → o ≡ refused r
+      go (got u next) e k = past next e (eqb next (length s)) refl k
+      go malformed e k = let is : Form (lineNumber h) ≡ r = cc in goes-malformed s h at o (w .going) (line-malformed s at E b (rw e)) ∙ ap refused is
+
+  end-finishes : byte s at ≡ 69 → endVerdict (length s) (lineNumber h) (stepOf (byteAt s (at + 1) 10)) ≡ Accepted → o ≡ finished h
+  unfolding lines.letterOf lines.placesAt lines.fieldsAt
+  end-finishes be = go (byteAt s (at + 1) 10) refl
+    where
+      b : letterOf (byte s at) ≡ some E
+      b = ap letterOf be
+
+      last : (next : ℕ) → byteAt s (at + 1) 10 ≡ got tt next → (z : Bool) → eqb next (length s) ≡ z
+          → (if z then Accepted else Refused (Form (lineNumber h + 1))) ≡ Accepted → o ≡ finished h
+      last next e true ze k = goes-end s h at o (w .going) (line E tt) next (line-got s at E b tt next (rw e)) refl (eqb-true next (length s) ze)
+      last next e false ze k = let z : _≡_ {A = ℕ} 0 1 = cc in absurd (omega arith)
+
+      go : (x : Field (Unit {0})) → byteAt s (at + 1) 10 ≡ x → endVerdict (length s) (lineNumber h) (stepOf x) ≡ Accepted → o ≡ finished h
+      go (got u next) e k = last next e (eqb next (length s)) refl k
+      go malformed e k = let z : _≡_ {A = ℕ} 0 1 = cc in absurd (omega arith)
+
+  -- the same of the code's verdict on it
+  module _ (be : byte s at ≡ 69) (n : ℕ) (ne : n ≡ lineNumber h) (v : Verdict) (ve : v ≡ endVerdict (length s) n (stepOf (byteAt s (at + 1) 10))) where
+    pub end-refused : (r : Refusal) → v ≡ Refused r → o ≡ refused r
+    end-refused r k = end-refuses be r (rw (← ne) (sym ve ∙ k))
+
+    pub end-finished : v ≡ Accepted → o ≡ finished h
+    end-finished k = end-finishes be (rw (← ne) (sym ve ∙ k))
+
+  pub rows-accepted : o ≡ accepted h → Scanned s o (record { verdict = Accepted; hour = h; sources = ps; deliveries = qs })
+  rows-accepted e = rw e (record { answer = refl; sources = w .sources; deliveries = w .deliveries })
+
+-- an hour that passes 10 and 11 is the deck's
+pub finished-accepts : (h : Hour) → verdictOf (finished h) ≡ Accepted → finished h ≡ accepted h
+finished-accepts h = go (finished h) refl
+  where
+    go : (x : Outcome Hour) → finished h ≡ x → verdictOf x ≡ Accepted → x ≡ accepted h
+    go (accepted m) e v = ap accepted (sym (finished-passed h m e .same))
+    go (refused r) e v = let z : _≡_ {A = ℕ} 0 1 = cc in absurd (omega arith)
+
+-- What the answer tells.
+
+pub verdict-told : (o : Outcome Hour) → readAnswer o .verdict ≡ verdictOf o
+verdict-told (accepted h) = refl
+verdict-told (refused r) = refl
+
+-- past the places there is no part
+pub part-past : (s : List ℕ) (part : ℕ → List ℕ) (ps : List Place) (i : ℕ) → Placed s part ps → 32 ≤ i → [] ≡ part i
+part-past s part ps i e le =
+    let l = e .size in
+    let k : getD ps i nowhere ≡ nowhere = List·getD-eq-default ps nowhere (omega arith) in
+    ap (bytesOf s) (sym k) ∙ e .each i .bytes

@@ -1,0 +1,115 @@
+-- What the line at hand comes to, tried on the counts of the hour so far and on the tables kept beside it.
+use mathlib.Core.List.{List}
+use Prim.Native.Nat.{ℕ, _+_}
+use lib.Dec.{eqb}
+use Rattle.rules.specs.Words.{if_then_else_}
+use Rattle.rules.specs.Fields as fields
+use Rattle.rules.specs.Fields.{charsAt}
+use Rattle.rules.specs.Lines.{U, P, F, placesAt}
+use Rattle.rules.specs.Record.{labelOf, blankSource, blankDelivery}
+use Rattle.rules.specs.declared.Plant.{Plant}
+use Rattle.rules.specs.declared.Plant.the-variants.{Unit as IsUnit, Purchase as IsPurchase, Fixed as IsFixed}
+use Rattle.rules.specs.declared.Basis.{Basis}
+use Rattle.rules.specs.declared.Refusal.{Refusal}
+use Rattle.rules.specs.declared.Refusal.the-variants.{Form}
+use Rattle.text.specs.declared.Step.{Step}
+use Rattle.text.specs.declared.Step.the-variants.{At, Missing}
+use Rattle.lines.specs.Answers.{unitLine, purchaseLine, fixedLine}
+use Rattle.lines.specs.declared.UnitLine.{UnitLine}
+use Rattle.lines.specs.declared.UnitLine.the-variants.{Read as UnitRead, Malformed as NoUnit}
+use Rattle.lines.specs.declared.PurchaseLine.{PurchaseLine}
+use Rattle.lines.specs.declared.PurchaseLine.the-variants.{Read as PurchaseRead, Malformed as NoPurchase}
+use Rattle.lines.specs.declared.FixedLine.{FixedLine}
+use Rattle.lines.specs.declared.FixedLine.the-variants.{Read as FixedRead, Malformed as NoFixed}
+use Rattle.lines.specs.declared.DeliveryLine.{DeliveryLine}
+use Rattle.lines.specs.declared.DeliveryLine.the-variants.{Read as DeliveryRead, Malformed as NoDelivery}
+use Rattle.lines.specs.declared.DirectLine.{DirectLine}
+use Rattle.lines.specs.declared.DirectLine.the-variants.{Read as DirectRead, Malformed as NoDirect}
+use Rattle.ranges.specs.Inside.{plantInside, deliveryInside, directInside}
+use Rattle.hour.specs.Keys.{keyOf}
+use Rattle.hour.specs.Tried.{verdictOf, entryOf, nextLine, sourceTried, deliveryTried, Tables, directTried}
+use Rattle.hour.specs.declared.Counts.{Counts}
+use Rattle.hour.specs.declared.Verdict.{Verdict}
+use Rattle.hour.specs.declared.Verdict.the-variants.{Accepted, Refused}
+use Rattle.hour.specs.declared.Entry.the-variants.{Unnamed}
+use Rattle.deck.specs.declared.SourceStep.{SourceStep}
+use Rattle.deck.specs.declared.DeliveryStep.{DeliveryStep}
+use Rattle.deck.specs.declared.DirectStep.{DirectStep}
+
+-- Source lines.
+
+abbrev pub sourceRefused : Refusal → SourceStep
+sourceRefused r = record { verdict = Refused r; entry = blankSource; key = record { lo = 0; hi = 0 }; place = record { from = 0; upto = 0 }; next = 0 }
+
+-- a source whose label stands at a place
+unfoldable pub sourceStep : List ℕ → Counts → List ℕ → List ℕ → Plant → fields.Place → ℕ → SourceStep
+sourceStep s n lo hi plant p next =
+    record {
+      verdict = verdictOf (sourceTried n (plantInside plant) plant (keyOf (labelOf (charsAt s p))) lo hi);
+      entry = record { plant = plant; label = labelOf (charsAt s p) };
+      key = keyOf (labelOf (charsAt s p));
+      place = record { from = p .from; upto = p .upto };
+      next = next;
+    }
+
+module _ (s : List ℕ) (n : Counts) (lo hi : List ℕ) where
+  abbrev pub unitStep : UnitLine → SourceStep
+  unitStep (UnitRead u from upto next) = sourceStep s n lo hi (IsUnit u) (record { from = from; upto = upto }) next
+  unitStep NoUnit = sourceRefused (Form (nextLine n))
+
+  abbrev pub purchaseStep : PurchaseLine → SourceStep
+  purchaseStep (PurchaseRead g rate from upto next) = sourceStep s n lo hi (IsPurchase g rate) (record { from = from; upto = upto }) next
+  purchaseStep NoPurchase = sourceRefused (Form (nextLine n))
+
+  abbrev pub fixedStep : FixedLine → SourceStep
+  fixedStep (FixedRead g from upto next) = sourceStep s n lo hi (IsFixed g) (record { from = from; upto = upto }) next
+  fixedStep NoFixed = sourceRefused (Form (nextLine n))
+
+-- by its letter, U, P or F; any other is no source line
+abbrev pub sourceFrom : List ℕ → ℕ → ℕ → Counts → List ℕ → List ℕ → SourceStep
+sourceFrom s at letter n lo hi =
+    if eqb letter 85 then unitStep s n lo hi (unitLine (placesAt s at U)) else
+    if eqb letter 80 then purchaseStep s n lo hi (purchaseLine (placesAt s at P)) else
+    if eqb letter 70 then fixedStep s n lo hi (fixedLine (placesAt s at F)) else
+    sourceRefused (Form (nextLine n))
+
+-- T lines.
+
+abbrev pub deliveryRefused : Refusal → DeliveryStep
+deliveryRefused r = record { verdict = Refused r; entry = blankDelivery; key = record { lo = 0; hi = 0 }; place = record { from = 0; upto = 0 }; next = 0 }
+
+unfoldable pub deliveryTook : List ℕ → Counts → List ℕ → List ℕ → ℕ → ℕ → ℕ → ℕ → fields.Place → ℕ → DeliveryStep
+deliveryTook s n lo hi sequence kind block mwh p next =
+    record {
+      verdict = verdictOf (deliveryTried n (deliveryInside sequence kind block mwh) (keyOf (labelOf (charsAt s p))) lo hi);
+      entry = record { sequence = record { 0 = sequence }; kind = kind; block = block; mwh = mwh; label = labelOf (charsAt s p) };
+      key = keyOf (labelOf (charsAt s p));
+      place = record { from = p .from; upto = p .upto };
+      next = next;
+    }
+
+abbrev pub deliveryStep : List ℕ → Counts → List ℕ → List ℕ → DeliveryLine → DeliveryStep
+deliveryStep s n lo hi (DeliveryRead sequence kind block mwh from upto next) =
+    deliveryTook s n lo hi sequence kind block mwh (record { from = from; upto = upto }) next
+deliveryStep s n lo hi NoDelivery = deliveryRefused (Form (nextLine n))
+
+-- D lines.
+
+unfoldable pub directTook : List ℕ → Counts → Tables → Basis → ℕ → fields.Place → fields.Place → ℕ → DirectStep
+directTook s n t basis percent unit delivery next =
+    record {
+      entry = entryOf
+          (directTried n (directInside basis percent)
+          (record { basis = basis; percent = percent; unit = keyOf (labelOf (charsAt s unit)); delivery = keyOf (labelOf (charsAt s delivery)) }) t);
+      next = next;
+    }
+
+abbrev pub directStep : List ℕ → Counts → Tables → DirectLine → DirectStep
+directStep s n t (DirectRead basis percent from upto begin end next) =
+    directTook s n t basis percent (record { from = from; upto = upto }) (record { from = begin; upto = end }) next
+directStep s n t NoDirect = record { entry = Unnamed (Form (nextLine n)); next = 0 }
+
+-- E, from the place after its letter: its LF is the last of so many bytes.
+abbrev pub endVerdict : ℕ → ℕ → Step → Verdict
+endVerdict size line (At next) = if eqb next size then Accepted else Refused (Form (line + 1))
+endVerdict size line Missing = Refused (Form line)

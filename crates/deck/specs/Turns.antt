@@ -1,0 +1,327 @@
+-- What the line at hand tells of the reading: it refuses the deck, or the hour has one entry more and reading goes on after it.
+use mathlib.Core.Path.{_≡_, refl, ap, sym, _∙_}
+use mathlib.Core.Bool.{Bool, true, false}
+use mathlib.Core.List.{List}
+use mathlib.Core.Option.{none, some}
+use Prim.Native.Nat.{ℕ, _+_, _<_, _≤_}
+use native.Mathlib.Omega.{arith}
+use lib.Dec.{eqb}
+use lib.ListN.{getD}
+use borrow.Author.Tests.{eqb-true, ne-eqb}
+use Rattle.rules.specs.Refusals.{Outcome, accepted, refused, andThen}
+use Rattle.rules.specs.Fields as fields
+use Rattle.rules.specs.Fields.{Field, got, malformed, byte, escape, Chars, charsAt}
+use Rattle.rules.specs.Lines as lines
+use Rattle.rules.specs.Lines.{Letter, H, U, P, F, T, D, Fields, fieldsOf, seen, ranged, letterOf, Line, line, placesAt, lineAt}
+use Rattle.rules.specs.Record.{chars, labelOf, withSource, withDelivery, withDirect, unitOf, purchaseOf, fixedOf, deliveryOf}
+use Rattle.rules.specs.Reading as reading
+use Rattle.rules.specs.Reading.{lineNumber, taken, sourceTaken, isEnd}
+use Rattle.rules.specs.declared.Label.{Label}
+use Rattle.rules.specs.declared.Plant.{Plant}
+use Rattle.rules.specs.declared.Source.{Source}
+use Rattle.rules.specs.declared.Direct.{Direct}
+use Rattle.rules.specs.declared.Hour.{Hour}
+use Rattle.rules.specs.declared.Refusal.{Refusal}
+use Rattle.rules.specs.declared.Refusal.the-variants.{Form}
+use Rattle.roundtrip.specs.Loop.{Going, goes-malformed, goes-on, goes-refused}
+use Rattle.roundtrip.specs.Labels.{chars-label}
+use Rattle.lines.specs.Answers.{unitLine, purchaseLine, fixedLine, deliveryLine, directLine}
+use Rattle.lines.specs.Cut.{cutFields, ranged-cut, cut-ranged, LabelStands, line-stands}
+use Rattle.ranges.specs.Inside.{plantInside, deliveryInside, directInside}
+use Rattle.ranges.specs.RangedIsInside.{unit-inside, purchase-inside, fixed-inside, delivery-inside, direct-inside}
+use Rattle.hour.specs.Keys.{keyOf}
+use Rattle.hour.specs.KeyTells.{labelled}
+use Rattle.hour.specs.Tried.{verdictOf, countsOf, nextLine, sourceTried, deliveryTried, Tables, directTried}
+use Rattle.hour.specs.Kept.{Kept}
+use Rattle.hour.specs.TriedIsTaken.{source-tried, delivery-tried, direct-tried}
+use Rattle.hour.specs.TablesKept.{verdict-accepted, verdict-refused, entry-named, entry-unnamed, source-let, delivery-let, direct-let, sourceAdded, kept-source, deliveryAdded, kept-delivery, directAdded, kept-direct}
+use Rattle.hour.specs.declared.Key.{Key}
+use Rattle.hour.specs.declared.Verdict.{Verdict}
+use Rattle.hour.specs.declared.Verdict.the-variants.{Accepted, Refused}
+use Rattle.hour.specs.declared.DirectLine.{DirectLine}
+use Rattle.hour.specs.declared.Entry.the-variants.{Named, Unnamed}
+use Rattle.deck.specs.Answers.{Holds}
+use Rattle.deck.specs.Steps as steps
+use Rattle.deck.specs.Steps.{sourceRefused, sourceStep, unitStep, purchaseStep, fixedStep, sourceFrom, deliveryTook, deliveryStep, directTook, directStep}
+use Rattle.deck.specs.LabelBytes.{Escaped, line-escaped}
+use Rattle.deck.specs.declared.Place.{Place}
+use Rattle.deck.specs.declared.SourceStep.{SourceStep}
+use Rattle.deck.specs.declared.DeliveryStep.{DeliveryStep}
+use Rattle.deck.specs.declared.DirectStep.{DirectStep}
+
+-- A line by its letter.
+
+module _ (s : List ℕ) (at : ℕ) (l : Letter) (b : letterOf (byte s at) ≡ some l) where
+  pub line-got : (v : Fields fields.Place (fieldsOf l)) (next : ℕ) → placesAt s (at + 1) l ≡ got v next → lineAt s at ≡ got (line l (seen (fieldsOf l) s v)) next
+  unfolding lines.lineAt
+  line-got v next e = rw (b, e)
+
+  pub line-malformed : placesAt s (at + 1) l ≡ malformed → lineAt s at ≡ malformed
+  unfolding lines.lineAt
+  line-malformed e = rw (b, e)
+
+pub line-none : (s : List ℕ) (at : ℕ) → letterOf (byte s at) ≡ none → lineAt s at ≡ malformed
+unfolding lines.lineAt
+line-none s at b = rw b
+
+-- What comes of it.
+
+-- every reading that comes here is refused
+abbrev pub Refuses : List ℕ → Hour → ℕ → Refusal → Type 0
+Refuses s h at r = (o : Outcome Hour) → Going s h at o → o ≡ refused r
+
+-- every reading that comes here goes on after the line
+abbrev pub Goes : List ℕ → Hour → ℕ → Hour → ℕ → Type 0
+Goes s h at after next = (o : Outcome Hour) → Going s h at o → Going s after next o
+
+-- a line of a class with n entries, whose label stands at a place
+pub record Takes (s : List ℕ) (h : Hour) (at n : ℕ) (after : Hour) (tables : Tables) (label : Label) (key : Key) (place : Place) (next : ℕ) : Type 0 where
+  pub goes : Goes s h at after next
+  pub kept : Kept after tables
+  pub room : n < 32
+  pub keyed : key ≡ keyOf label
+  pub holds : Holds s (escape (chars label)) place
+  pub further : at < next
+
+pub record Turn (s : List ℕ) (h : Hour) (at n : ℕ) (verdict : Verdict) (after : Hour) (tables : Tables) (label : Label) (key : Key) (place : Place) (next : ℕ) : Type 0 where
+  pub refuses : (r : Refusal) → verdict ≡ Refused r → Refuses s h at r
+  pub takes : verdict ≡ Accepted → Takes s h at n after tables label key place next
+
+abbrev pub SourceTurn : List ℕ → Hour → Tables → ℕ → SourceStep → Type 0
+SourceTurn s h t at r =
+    Turn s h at (h .nsources) (r .verdict) (withSource h (r .entry)) (sourceAdded t (h .nsources) (r .entry)) (r .entry .label) (r .key) (r .place) (r .next)
+
+abbrev pub DeliveryTurn : List ℕ → Hour → Tables → ℕ → DeliveryStep → Type 0
+DeliveryTurn s h t at r =
+    Turn s h at (h .ndeliveries) (r .verdict) (withDelivery h (r .entry)) (deliveryAdded t (h .ndeliveries) (r .entry)) (r .entry .label) (r .key) (r .place) (r .next)
+
+module _ (s : List ℕ) (h : Hour) (at n : ℕ) (after : Hour) (tables : Tables) (label : Label) (key : Key) (place : Place) (next : ℕ) where
+  refused-turn : (r : Refusal) → Refuses s h at r → Turn s h at n (Refused r) after tables label key place next
+  refused-turn r e =
+      record {
+        refuses = λ q k. let is : r ≡ q = cc in λ o g. e o g ∙ ap refused is;
+        takes = λ k. let z : _≡_ {A = ℕ} 0 1 = cc in absurd (omega arith);
+      }
+
+-- a line that is read, whose rules are tried on the tables
+module _ (s : List ℕ) (h : Hour) (at n : ℕ) (after read : Hour) (tables : Tables) (p : fields.Place) (next : ℕ) (l : Line) (tried : Outcome (Unit {0})) where
+  tried-turn : lineAt s at ≡ got l next → isEnd (l .letter) ≡ false → LabelStands s p → Escaped s p → at < next
+      → taken h l ≡ andThen tried (λ u. accepted read) → (tried ≡ accepted tt → (read ≡ after) × Kept after tables × (n < 32))
+      → Turn s h at n (verdictOf tried) after tables (labelOf (charsAt s p)) (keyOf (labelOf (charsAt s p))) (record { from = p .from; upto = p .upto }) next
+  tried-turn e i st es far t k =
+      record {
+        refuses = λ r v o g. goes-refused s h at o g l next e r i (t ∙ ap (λ (x : Outcome (Unit {0})). andThen x (λ u. accepted read)) (verdict-refused tried r v));
+        takes = λ v.
+            let a = verdict-accepted tried v in
+            let q = k a in
+            record {
+              goes = λ o g. goes-on s h at o g l next e after (t ∙ ap (λ (x : Outcome (Unit {0})). andThen x (λ u. accepted read)) a ∙ ap accepted (q .0));
+              kept = q .1;
+              room = q .2;
+              keyed = refl;
+              holds = record { order = st .order; within = st .within; bytes = sym es ∙ ap escape (sym (chars-label (charsAt s p))) };
+              further = far;
+            };
+      }
+
+-- Source lines.
+
+module _ (s : List ℕ) (h : Hour) (t : Tables) (k : Kept h t) (at : ℕ) where
+  -- a line whose cut numbers are those of one plant, and its numbers those of another
+  source-tried-turn : (l : Line) (next : ℕ) (plant read : Plant) (p : fields.Place) → lineAt s at ≡ got l next → isEnd (l .letter) ≡ false → LabelStands s p → Escaped s p
+      → at < next → taken h l ≡ sourceTaken h (plantInside plant) (record { plant = read; label = labelOf (charsAt s p) }) → (plantInside plant ≡ true → plant ≡ read)
+      → SourceTurn s h t at (sourceStep s (countsOf h) (t .slo) (t .shi) plant p next)
+  unfolding steps.sourceStep
+  source-tried-turn l next plant read p e i st es far took same =
+      let x : Source = record { plant = plant; label = labelOf (charsAt s p) } in
+      let y : Source = record { plant = read; label = labelOf (charsAt s p) } in
+      let lb = labelled (charsAt s p) (st .label) in
+      let tried = sourceTried (countsOf h) (plantInside plant) plant (keyOf (labelOf (charsAt s p))) (t .slo) (t .shi) in
+      tried-turn s h at (h .nsources) (withSource h x) (withSource h y) (sourceAdded t (h .nsources) x) p next l tried e i st es far
+      (took ∙ source-tried h t k (plantInside plant) y plant lb same)
+      (λ a.
+      let r = source-let (countsOf h) (plantInside plant) plant (keyOf (labelOf (charsAt s p))) (t .slo) (t .shi) a in (
+        ap (λ (z : Plant). withSource h (record { plant = z; label = labelOf (charsAt s p) })) (sym (same (r .within))),
+        kept-source h t k (plantInside plant) x lb (λ w. w) a,
+        r .room,
+      ))
+
+  -- once for the three letters: a line's entry, and its label
+  module _ (l : Letter) (entry : Fields Chars (fieldsOf l) → Source) (place : Fields fields.Place (fieldsOf l) → fields.Place) (b : letterOf (byte s at) ≡ some l)
+      (i : isEnd l ≡ false) (inside : (w : Fields Chars (fieldsOf l)) → ranged (fieldsOf l) w ≡ plantInside (entry w .plant))
+      (took : (w : Fields Chars (fieldsOf l)) → taken h (line l w) ≡ sourceTaken h (ranged (fieldsOf l) w) (entry w)) where
+    source-turn : (v : Fields fields.Place (fieldsOf l)) (next : ℕ) → placesAt s (at + 1) l ≡ got v next → LabelStands s (place v) → Escaped s (place v)
+        → entry (seen (fieldsOf l) s v) .label ≡ labelOf (charsAt s (place v))
+        → SourceTurn s h t at (sourceStep s (countsOf h) (t .slo) (t .shi) (entry (seen (fieldsOf l) s (cutFields (fieldsOf l) v)) .plant) (place v) next)
+    source-turn v next e st es lb =
+        let ks = fieldsOf l in
+        let w = seen ks s v in
+        let c = entry (seen ks s (cutFields ks v)) .plant in
+        let same : ranged ks w ≡ plantInside c = sym (ranged-cut l s v) ∙ inside (seen ks s (cutFields ks v)) in
+        let ls = line-stands s l (at + 1) v next e in
+        source-tried-turn (line l w) next c (entry w .plant) (place v) (line-got s at l b v next e) i st es (omega (arith, ls .after))
+        (took w ∙ ap (λ (r : Bool). sourceTaken h r (entry w)) same ∙ ap (λ (x : Label). sourceTaken h (plantInside c) (record { plant = entry w .plant; label = x })) lb)
+        (λ r. ap (λ (v : Fields fields.Place ks). entry (seen ks s v) .plant) (cut-ranged l s v (same ∙ r)))
+
+  no-source : Refuses s h at (Form (lineNumber h)) → SourceTurn s h t at (sourceRefused (Form (nextLine (countsOf h))))
+  no-source e = refused-turn s h at (h .nsources) _ _ _ _ _ _ (Form (lineNumber h)) e
+
+  unit-turn : letterOf (byte s at) ≡ some U → SourceTurn s h t at (unitStep s (countsOf h) (t .slo) (t .shi) (unitLine (placesAt s (at + 1) U)))
+  unfolding lines.seen reading.taken
+  unit-turn b = go (placesAt s (at + 1) U) refl
+    where
+      go : (x : Field (Fields fields.Place (fieldsOf U))) → placesAt s (at + 1) U ≡ x → SourceTurn s h t at (unitStep s (countsOf h) (t .slo) (t .shi) (unitLine x))
+      go (got v next) e =
+          source-turn U unitOf (λ v. v .1 .1 .1 .1 .1 .1 .1 .1 .1 .1 .0) b refl unit-inside (λ w. refl) v next e
+          (line-stands s U (at + 1) v next e .labels .0) (line-escaped s U (at + 1) v next e .0) refl
+      go malformed e = no-source (λ o g. goes-malformed s h at o g (line-malformed s at U b e))
+
+  purchase-turn : letterOf (byte s at) ≡ some P → SourceTurn s h t at (purchaseStep s (countsOf h) (t .slo) (t .shi) (purchaseLine (placesAt s (at + 1) P)))
+  unfolding lines.seen reading.taken
+  purchase-turn b = go (placesAt s (at + 1) P) refl
+    where
+      go : (x : Field (Fields fields.Place (fieldsOf P))) → placesAt s (at + 1) P ≡ x → SourceTurn s h t at (purchaseStep s (countsOf h) (t .slo) (t .shi) (purchaseLine x))
+      go (got v next) e =
+          source-turn P purchaseOf (λ v. v .1 .1 .0) b refl purchase-inside (λ w. refl) v next e
+          (line-stands s P (at + 1) v next e .labels .0) (line-escaped s P (at + 1) v next e .0) refl
+      go malformed e = no-source (λ o g. goes-malformed s h at o g (line-malformed s at P b e))
+
+  fixed-turn : letterOf (byte s at) ≡ some F → SourceTurn s h t at (fixedStep s (countsOf h) (t .slo) (t .shi) (fixedLine (placesAt s (at + 1) F)))
+  unfolding lines.seen reading.taken
+  fixed-turn b = go (placesAt s (at + 1) F) refl
+    where
+      go : (x : Field (Fields fields.Place (fieldsOf F))) → placesAt s (at + 1) F ≡ x → SourceTurn s h t at (fixedStep s (countsOf h) (t .slo) (t .shi) (fixedLine x))
+      go (got v next) e =
+          source-turn F fixedOf (λ v. v .1 .0) b refl fixed-inside (λ w. refl) v next e
+          (line-stands s F (at + 1) v next e .labels .0) (line-escaped s F (at + 1) v next e .0) refl
+      go malformed e = no-source (λ o g. goes-malformed s h at o g (line-malformed s at F b e))
+
+  -- a second H line, and a line of no letter
+  head-refuses : letterOf (byte s at) ≡ some H → Refuses s h at (Form (lineNumber h))
+  unfolding reading.taken
+  head-refuses b = go (placesAt s (at + 1) H) refl
+    where
+      go : (x : Field (Fields fields.Place (fieldsOf H))) → placesAt s (at + 1) H ≡ x → Refuses s h at (Form (lineNumber h))
+      go (got v next) e = λ o g. goes-refused s h at o g (line H (seen (fieldsOf H) s v)) next (line-got s at H b v next e) (Form (lineNumber h)) refl refl
+      go malformed e = λ o g. goes-malformed s h at o g (line-malformed s at H b e)
+
+  other-refuses : (b : ℕ) → byte s at ≡ b → (b ≡ 68 → ⊥) → (b ≡ 84 → ⊥) → (b ≡ 69 → ⊥) → eqb b 85 ≡ false → eqb b 80 ≡ false → eqb b 70 ≡ false
+      → Refuses s h at (Form (lineNumber h))
+  unfolding lines.letterOf
+  other-refuses b be d n e u p f = go (eqb b 72) refl
+    where
+      go : (x : Bool) → eqb b 72 ≡ x → Refuses s h at (Form (lineNumber h))
+      go true xe = head-refuses (rw (be, xe))
+      go false xe = λ o g. goes-malformed s h at o g (line-none s at (rw (be, xe, u, p, f, ne-eqb b 84 n, ne-eqb b 68 d, ne-eqb b 69 e)))
+
+  -- any line but T, D and E
+  pub source-at-turn : (b : ℕ) → byte s at ≡ b → (b ≡ 68 → ⊥) → (b ≡ 84 → ⊥) → (b ≡ 69 → ⊥)
+      → SourceTurn s h t at (sourceFrom s (at + 1) b (countsOf h) (t .slo) (t .shi))
+  unfolding lines.letterOf
+  source-at-turn b be d n e = go (eqb b 85) refl (eqb b 80) refl (eqb b 70) refl
+    where
+      letter : (c : ℕ) → eqb b c ≡ true → letterOf (byte s at) ≡ letterOf c
+      letter c q = ap letterOf (be ∙ eqb-true b c q)
+
+      go : (u : Bool) → eqb b 85 ≡ u → (p : Bool) → eqb b 80 ≡ p → (f : Bool) → eqb b 70 ≡ f
+          → SourceTurn s h t at (sourceFrom s (at + 1) b (countsOf h) (t .slo) (t .shi))
+      go true ue p pe f fe = rw ue (unit-turn (letter 85 ue))
+      go false ue true pe f fe = rw (ue, pe) (purchase-turn (letter 80 pe))
+      go false ue false pe true fe = rw (ue, pe, fe) (fixed-turn (letter 70 fe))
+      go false ue false pe false fe = rw (ue, pe, fe) (no-source (other-refuses b be d n e ue pe fe))
+
+  -- T lines.
+
+  pub delivery-at-turn : byte s at ≡ 84 → DeliveryTurn s h t at (deliveryStep s (countsOf h) (t .tlo) (t .thi) (deliveryLine (placesAt s (at + 1) T)))
+  unfolding lines.letterOf lines.seen reading.taken steps.deliveryTook
+  delivery-at-turn be = go (placesAt s (at + 1) T) refl
+    where
+      b : letterOf (byte s at) ≡ some T
+      b = ap letterOf be
+
+      go : (x : Field (Fields fields.Place (fieldsOf T))) → placesAt s (at + 1) T ≡ x → DeliveryTurn s h t at (deliveryStep s (countsOf h) (t .tlo) (t .thi) (deliveryLine x))
+      go (got v next) e =
+          let ks = fieldsOf T in
+          let w = seen ks s v in
+          let c = seen ks s (cutFields ks v) in
+          let p = v .1 .1 .1 .1 .0 in
+          let ls = line-stands s T (at + 1) v next e in
+          let st = ls .labels .0 in
+          let lb = labelled (charsAt s p) (st .label) in
+          let in-range = deliveryInside (c .0) (c .1 .0) (c .1 .1 .0) (c .1 .1 .1 .0) in
+          let same : ranged ks w ≡ in-range = sym (ranged-cut T s v) ∙ delivery-inside c in
+          let tried = deliveryTried (countsOf h) in-range (keyOf (labelOf (charsAt s p))) (t .tlo) (t .thi) in
+          tried-turn s h at (h .ndeliveries) (withDelivery h (deliveryOf c)) (withDelivery h (deliveryOf w)) (deliveryAdded t (h .ndeliveries) (deliveryOf c)) p next
+          (line T w) tried (line-got s at T b v next e) refl st (line-escaped s T (at + 1) v next e .0) (omega (arith, ls .after))
+          (ap (λ (r : Bool). reading.deliveryTaken h r (deliveryOf w)) same ∙ delivery-tried h t k in-range (deliveryOf w) lb)
+          (λ a.
+          let r = delivery-let (countsOf h) in-range (keyOf (labelOf (charsAt s p))) (t .tlo) (t .thi) a in (
+            ap (λ (v : Fields fields.Place ks). withDelivery h (deliveryOf (seen ks s v))) (sym (cut-ranged T s v (same ∙ r .within))),
+            kept-delivery h t k in-range (deliveryOf c) lb a,
+            r .room,
+          ))
+      go malformed e = refused-turn s h at (h .ndeliveries) _ _ _ _ _ _ (Form (lineNumber h)) (λ o g. goes-malformed s h at o g (line-malformed s at T b e))
+
+-- D lines.
+
+pub record DirectTakes (s : List ℕ) (h : Hour) (t : Tables) (at : ℕ) (y : Direct) (next : ℕ) : Type 0 where
+  pub goes : Goes s h at (withDirect h y) next
+  pub kept : Kept (withDirect h y) (directAdded t y)
+  pub room : h .ndirects < 32
+  pub source : y .source < 32
+  pub total : getD (t .percents) (y .source) 0 + y .percent ≤ 100
+  pub further : at < next
+
+pub record DirectTurn (s : List ℕ) (h : Hour) (t : Tables) (at : ℕ) (r : DirectStep) : Type 0 where
+  pub refuses : (q : Refusal) → r .entry ≡ Unnamed q → Refuses s h at q
+  pub takes : (y : Direct) → r .entry ≡ Named y → DirectTakes s h t at y (r .next)
+
+pub direct-at-turn : (s : List ℕ) (h : Hour) (t : Tables) (k : Kept h t) (at : ℕ) → byte s at ≡ 68
+    → DirectTurn s h t at (directStep s (countsOf h) t (directLine (placesAt s (at + 1) D)))
+unfolding lines.letterOf lines.seen reading.taken steps.directTook
+direct-at-turn s h t k at be = go (placesAt s (at + 1) D) refl
+  where
+    b : letterOf (byte s at) ≡ some D
+    b = ap letterOf be
+
+    go : (x : Field (Fields fields.Place (fieldsOf D))) → placesAt s (at + 1) D ≡ x → DirectTurn s h t at (directStep s (countsOf h) t (directLine x))
+    go (got v next) e =
+        let ks = fieldsOf D in
+        let w = seen ks s v in
+        let c = seen ks s (cutFields ks v) in
+        let ls = line-stands s D (at + 1) v next e in
+        let unit = labelOf (charsAt s (v .1 .1 .0)) in
+        let delivery = labelOf (charsAt s (v .1 .1 .1 .0)) in
+        let in-range = directInside (c .0) (c .1 .0) in
+        let same : ranged ks w ≡ in-range = sym (ranged-cut D s v) ∙ direct-inside c in
+        let x : DirectLine = record { basis = c .0; percent = c .1 .0; unit = keyOf unit; delivery = keyOf delivery } in
+        let tried = directTried (countsOf h) in-range x t in
+        let cut : in-range ≡ true → cutFields ks v ≡ v = λ r. cut-ranged D s v (same ∙ r) in
+        let took : taken h (line D w) ≡ andThen tried (λ y. accepted (withDirect h y))
+        = ap (λ (r : Bool). reading.directTaken h r (w .0) (w .1 .0) unit delivery) same
+        ∙ direct-tried h t k in-range (w .0) (w .1 .0) unit delivery x (labelled (charsAt s (v .1 .1 .0)) (ls .labels .0 .label))
+        (labelled (charsAt s (v .1 .1 .1 .0)) (ls .labels .1 .0 .label)) refl refl
+        (λ r. (ap (λ (v : Fields fields.Place ks). v .0) (cut r), ap (λ (v : Fields fields.Place ks). v .1 .0) (cut r))) in
+        record {
+          refuses = λ q z o g.
+              goes-refused s h at o g (line D w) next (line-got s at D b v next e) q refl
+              (took ∙ ap (λ (x : Outcome Direct). andThen x (λ y. accepted (withDirect h y))) (entry-unnamed tried q z));
+          takes = λ y z.
+              let a = entry-named tried y z in
+              let r = direct-let (countsOf h) in-range x t y a in
+              record {
+                goes = λ o g.
+                    goes-on s h at o g (line D w) next (line-got s at D b v next e) (withDirect h y)
+                    (took ∙ ap (λ (x : Outcome Direct). andThen x (λ y. accepted (withDirect h y))) a);
+                kept = kept-direct h t k in-range x y a;
+                room = r .room;
+                source = omega (arith, r .source, k .few .sources);
+                total = r .total;
+                further = omega (arith, ls .after);
+              };
+        }
+    go malformed e =
+        record {
+          refuses = λ q z. let is : Form (lineNumber h) ≡ q = cc in λ o g. goes-malformed s h at o g (line-malformed s at D b e) ∙ ap refused is;
+          takes = λ y z. let z : _≡_ {A = ℕ} 0 1 = cc in absurd (omega arith);
+        }

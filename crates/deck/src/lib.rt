@@ -1,0 +1,528 @@
+// Reads a whole deck in one pass, line by line, and tells where each label's own bytes stand in it.
+// The contracts cite rules' Reading and Calls for what a deck comes to, Answers for the structs that say it, and Steps for the line at hand.
+ghost use mathlib.Core.Path.{_≡_};
+ghost use Prim.Native.Nat.{_<_, _≤_};
+ghost use lib.ListN.{length};
+ghost use Rattle.rules.specs.Lines.{T, D, U, P, F, placesAt};
+ghost use Rattle.rules.specs.Record.{started, blankSource, blankDelivery, labelOf};
+ghost use Rattle.rules.specs.Fields.{byteAt, charsAt};
+ghost use Rattle.rules.specs.Reading.{reading, linesFrom};
+ghost use Rattle.rules.specs.Calls.{sourcePart, deliveryPart};
+ghost use Rattle.text.specs.Answers.{stepOf};
+ghost use Rattle.lines.specs.Answers.{unitLine, purchaseLine, fixedLine, deliveryLine, directLine};
+ghost use Rattle.lines.specs.Cut.{LabelStands};
+ghost use Rattle.hour.specs.Keys.{keyOf};
+ghost use Rattle.hour.specs.Tried.{verdictOf, Few};
+ghost use Rattle.deck.specs.Answers.{readAnswer, bytesOf, refusedScan, Scanned};
+ghost use Rattle.deck.specs.Steps.{sourceStep, sourceRefused, unitStep, purchaseStep, fixedStep, sourceFrom, deliveryRefused, deliveryStep, directStep, endVerdict};
+use hour::Counts;
+use hour::Entry;
+use hour::Key;
+use hour::Verdict;
+use lines::DeliveryLine;
+use lines::DirectLine;
+use lines::FixedLine;
+use lines::HeadLine;
+use lines::PurchaseLine;
+use lines::UnitLine;
+use rules::Basis;
+use rules::Delivery;
+use rules::Direct;
+use rules::Hour;
+use rules::InputSequence;
+use rules::Label;
+use rules::Plant;
+use rules::Refusal;
+use rules::Source;
+use text::Step;
+
+// Where a label's own bytes start and end.
+pub struct Place {
+    pub from: usize,
+    pub upto: usize,
+}
+
+// What a deck comes to, and where the labels of its sources and deliveries stand; past the counts, and for a refused deck, a place holds no bytes.
+pub struct ScannedDeck {
+    pub verdict: Verdict,
+    pub hour: Hour,
+    pub sources: [Place; 32],
+    pub deliveries: [Place; 32],
+}
+
+pub struct ReadHour {
+    pub verdict: Verdict,
+    pub hour: Hour,
+}
+
+// A line at hand: the verdict on it, and for one that is taken its entry, the key and the place of its label, and the place after the line.
+struct SourceStep {
+    verdict: Verdict,
+    entry: Source,
+    key: Key,
+    place: Place,
+    next: usize,
+}
+
+struct DeliveryStep {
+    verdict: Verdict,
+    entry: Delivery,
+    key: Key,
+    place: Place,
+    next: usize,
+}
+
+struct DirectStep {
+    entry: Entry,
+    next: usize,
+}
+
+// Blanks.
+
+fn blank_source() -> Source
+    ensures { λ r. ⌜ r ≡ blankSource ⌝ }
+{
+    Source {
+        plant: Plant::Fixed { g: 0 },
+        label: Label {
+            len: 0,
+            bytes: [0u8; 16],
+        },
+    }
+}
+
+fn blank_delivery() -> Delivery
+    ensures { λ r. ⌜ r ≡ blankDelivery ⌝ }
+{
+    Delivery {
+        sequence: InputSequence(0),
+        kind: 0,
+        block: 0,
+        mwh: 0,
+        label: Label {
+            len: 0,
+            bytes: [0u8; 16],
+        },
+    }
+}
+
+// The hour that an H line starts.
+fn start(losses: u32) -> Hour
+    ensures { λ r. ⌜ r ≡ started losses ⌝ }
+{
+    let source = blank_source();
+    let delivery = blank_delivery();
+    let direct = Direct {
+        basis: Basis::Low,
+        percent: 0,
+        source: 0,
+        delivery: 0,
+    };
+    let sources = [source; 32];
+    let deliveries = [delivery; 32];
+    let directs = [direct; 32];
+    Hour {
+        losses,
+        nsources: 0,
+        ndeliveries: 0,
+        ndirects: 0,
+        sources,
+        deliveries,
+        directs,
+    }
+}
+
+fn refused(r: Refusal) -> ScannedDeck
+    ensures { λ x. ⌜ x ≡ refusedScan r ⌝ }
+{
+    let nowhere = Place { from: 0, upto: 0 };
+    let sources = [nowhere; 32];
+    let deliveries = [nowhere; 32];
+    let hour = start(0);
+    ScannedDeck {
+        verdict: Verdict::Refused(r),
+        hour,
+        sources,
+        deliveries,
+    }
+}
+
+// Source lines, each from the place after its letter.
+
+fn source_refused(r: Refusal) -> SourceStep
+    ensures { λ x. ⌜ x ≡ sourceRefused r ⌝ }
+{
+    let entry = blank_source();
+    SourceStep {
+        verdict: Verdict::Refused(r),
+        entry,
+        key: Key { lo: 0, hi: 0 },
+        place: Place { from: 0, upto: 0 },
+        next: 0,
+    }
+}
+
+fn try_source(
+    s: &[u8],
+    n: Counts,
+    plant: Plant,
+    from: usize,
+    upto: usize,
+    next: usize,
+    lo: &[u64; 32],
+    hi: &[u64; 32],
+) -> SourceStep
+    requires { ⌜ Few n × LabelStands (now s) (record { from = from; upto = upto }) ⌝ }
+    ensures { λ r. ⌜ r ≡ sourceStep (now (s .entry)) n (now (lo .entry)) (now (hi .entry)) plant (record { from = from; upto = upto }) next ⌝ }
+{
+    let label = text::label_at(&s[from..upto]);
+    let key = hour::key_of(label);
+    let ranged = ranges::plant_in_range(plant);
+    let verdict = hour::take_source(n, ranged, plant, key, lo, hi);
+    SourceStep {
+        verdict,
+        entry: Source { plant, label },
+        key,
+        place: Place { from, upto },
+        next,
+    }
+}
+
+fn unit_at(s: &[u8], at: usize, n: Counts, lo: &[u64; 32], hi: &[u64; 32]) -> SourceStep
+    requires { ⌜ Few n ⌝ }
+    ensures { λ r. ⌜ r ≡ unitStep (now (s .entry)) n (now (lo .entry)) (now (hi .entry)) (unitLine (placesAt (now (s .entry)) at U)) ⌝ }
+{
+    let UnitLine::Read(u, from, upto, next) = lines::unit(s, at) else {
+        let line = hour::next_line(n);
+        return source_refused(Refusal::Form(line));
+    };
+    try_source(s, n, Plant::Unit(u), from, upto, next, lo, hi)
+}
+
+fn purchase_at(s: &[u8], at: usize, n: Counts, lo: &[u64; 32], hi: &[u64; 32]) -> SourceStep
+    requires { ⌜ Few n ⌝ }
+    ensures { λ r. ⌜ r ≡ purchaseStep (now (s .entry)) n (now (lo .entry)) (now (hi .entry)) (purchaseLine (placesAt (now (s .entry)) at P)) ⌝ }
+{
+    let PurchaseLine::Read(g, rate, from, upto, next) = lines::purchase(s, at) else {
+        let line = hour::next_line(n);
+        return source_refused(Refusal::Form(line));
+    };
+    try_source(s, n, Plant::Purchase { g, rate }, from, upto, next, lo, hi)
+}
+
+fn fixed_at(s: &[u8], at: usize, n: Counts, lo: &[u64; 32], hi: &[u64; 32]) -> SourceStep
+    requires { ⌜ Few n ⌝ }
+    ensures { λ r. ⌜ r ≡ fixedStep (now (s .entry)) n (now (lo .entry)) (now (hi .entry)) (fixedLine (placesAt (now (s .entry)) at F)) ⌝ }
+{
+    let FixedLine::Read(g, from, upto, next) = lines::fixed(s, at) else {
+        let line = hour::next_line(n);
+        return source_refused(Refusal::Form(line));
+    };
+    try_source(s, n, Plant::Fixed { g }, from, upto, next, lo, hi)
+}
+
+// A source line by its letter; a line of no letter is refused.
+fn source_at(
+    s: &[u8],
+    at: usize,
+    letter: u8,
+    n: Counts,
+    lo: &[u64; 32],
+    hi: &[u64; 32],
+) -> SourceStep
+    requires { ⌜ Few n ⌝ }
+    ensures { λ r. ⌜ r ≡ sourceFrom (now (s .entry)) at letter n (now (lo .entry)) (now (hi .entry)) ⌝ }
+{
+    if letter == 85 {
+        return unit_at(s, at, n, lo, hi);
+    }
+    if letter == 80 {
+        return purchase_at(s, at, n, lo, hi);
+    }
+    if letter == 70 {
+        return fixed_at(s, at, n, lo, hi);
+    }
+    let line = hour::next_line(n);
+    source_refused(Refusal::Form(line))
+}
+
+// A T line, from the place after its letter.
+
+fn delivery_refused(r: Refusal) -> DeliveryStep
+    ensures { λ x. ⌜ x ≡ deliveryRefused r ⌝ }
+{
+    let entry = blank_delivery();
+    DeliveryStep {
+        verdict: Verdict::Refused(r),
+        entry,
+        key: Key { lo: 0, hi: 0 },
+        place: Place { from: 0, upto: 0 },
+        next: 0,
+    }
+}
+
+fn delivery_at(s: &[u8], at: usize, n: Counts, lo: &[u64; 32], hi: &[u64; 32]) -> DeliveryStep
+    requires { ⌜ Few n ⌝ }
+    ensures { λ r. ⌜ r ≡ deliveryStep (now (s .entry)) n (now (lo .entry)) (now (hi .entry)) (deliveryLine (placesAt (now (s .entry)) at T)) ⌝ }
+{
+    let DeliveryLine::Read(sequence, kind, block, mwh, from, upto, next) = lines::delivery(s, at)
+    else {
+        let line = hour::next_line(n);
+        return delivery_refused(Refusal::Form(line));
+    };
+    let label = text::label_at(&s[from..upto]);
+    let key = hour::key_of(label);
+    let ranged = ranges::delivery_in_range(sequence, kind, block, mwh);
+    let verdict = hour::take_delivery(n, ranged, key, lo, hi);
+    DeliveryStep {
+        verdict,
+        entry: Delivery {
+            sequence: InputSequence(sequence),
+            kind,
+            block,
+            mwh,
+            label,
+        },
+        key,
+        place: Place { from, upto },
+        next,
+    }
+}
+
+// A D line, from the place after its letter.
+
+fn key_at(s: &[u8], from: usize, upto: usize) -> Key
+    requires { ⌜ LabelStands (now s) (record { from = from; upto = upto }) ⌝ }
+    ensures { λ r. ⌜ r ≡ keyOf (labelOf (charsAt (now (s .entry)) (record { from = from; upto = upto }))) ⌝ }
+{
+    let label = text::label_at(&s[from..upto]);
+    hour::key_of(label)
+}
+
+fn direct_at(
+    s: &[u8],
+    at: usize,
+    n: Counts,
+    slo: &[u64; 32],
+    shi: &[u64; 32],
+    tlo: &[u64; 32],
+    thi: &[u64; 32],
+    high: &[u32; 32],
+    based: &[u64; 32],
+    percents: &[u32; 32],
+) -> DirectStep
+    requires { ⌜ Few n ⌝ }
+    ensures { λ r. ⌜ r ≡ directStep (now (s .entry)) n (record { slo = now (slo .entry); shi = now (shi .entry); tlo = now (tlo .entry); thi = now (thi .entry); high = now (high .entry); based = now (based .entry); percents = now (percents .entry) }) (directLine (placesAt (now (s .entry)) at D)) ⌝ }
+{
+    let DirectLine::Read(basis, percent, from, upto, begin, end, next) = lines::direct(s, at) else {
+        let line = hour::next_line(n);
+        return DirectStep {
+            entry: Entry::Unnamed(Refusal::Form(line)),
+            next: 0,
+        };
+    };
+    let unit = key_at(s, from, upto);
+    let delivery = key_at(s, begin, end);
+    let ranged = ranges::direct_in_range(basis, percent);
+    let x = hour::DirectLine {
+        basis,
+        percent,
+        unit,
+        delivery,
+    };
+    let entry = hour::take_direct(n, ranged, x, slo, shi, tlo, thi, high, based, percents);
+    DirectStep { entry, next }
+}
+
+// The E line at a place, after which nothing stands; the line's number for the refusal.
+fn end_at(s: &[u8], at: usize, line: usize) -> Verdict
+    requires { ⌜ line < 100 ⌝ }
+    ensures { λ r. ⌜ r ≡ endVerdict (length (now (s .entry))) line (stepOf (byteAt (now (s .entry)) at 10)) ⌝ }
+{
+    let Step::At(p) = text::byte(s, at, 10) else {
+        return Verdict::Refused(Refusal::Form(line));
+    };
+    if p != s.len() {
+        return Verdict::Refused(Refusal::Form(line + 1));
+    }
+    Verdict::Accepted
+}
+
+// The lines after the first: the hour grows entry by entry, with the tables of its labels, bases and percents beside it.
+fn rows(s: &[u8], losses: u32, from: usize) -> ScannedDeck
+    ensures { λ r. ⌜ Scanned (now (s .entry)) (linesFrom (length (now (s .entry))) (now (s .entry)) (started losses) from) r ⌝ }
+{
+    let mut h = start(losses);
+    let nowhere = Place { from: 0, upto: 0 };
+    let mut sources = [nowhere; 32];
+    let mut deliveries = [nowhere; 32];
+    let mut slo = [0u64; 32];
+    let mut shi = [0u64; 32];
+    let mut tlo = [0u64; 32];
+    let mut thi = [0u64; 32];
+    let mut high = [0u32; 32];
+    let mut based = [0u64; 32];
+    let mut percents = [0u32; 32];
+    let mut at = from;
+    while at < s.len() {
+        let letter = s[at];
+        let n = Counts {
+            sources: h.nsources,
+            deliveries: h.ndeliveries,
+            directs: h.ndirects,
+        };
+        if letter == 68 {
+            let x = direct_at(
+                s,
+                at + 1,
+                n,
+                &slo,
+                &shi,
+                &tlo,
+                &thi,
+                &high,
+                &based,
+                &percents,
+            );
+            let entry = x.entry;
+            match entry {
+                Entry::Unnamed(r) => {
+                    return refused(r);
+                }
+                Entry::Named(d) => {
+                    let i = d.source;
+                    let b = d.basis;
+                    based[i] = hour::basis_code(b);
+                    percents[i] = percents[i] + d.percent;
+                    let m = h.ndirects;
+                    h.directs[m] = d;
+                    h.ndirects = m + 1;
+                    at = x.next;
+                }
+            }
+        } else if letter == 84 {
+            let x = delivery_at(s, at + 1, n, &tlo, &thi);
+            let v = x.verdict;
+            if let Verdict::Refused(r) = v {
+                return refused(r);
+            }
+            let m = h.ndeliveries;
+            let k = x.key;
+            tlo[m] = k.lo;
+            thi[m] = k.hi;
+            let place = x.place;
+            deliveries[m] = place;
+            let e = x.entry;
+            h.deliveries[m] = e;
+            h.ndeliveries = m + 1;
+            at = x.next;
+        } else if letter == 69 {
+            let line = hour::next_line(n);
+            let v = end_at(s, at + 1, line);
+            if let Verdict::Refused(r) = v {
+                return refused(r);
+            }
+            let w = hour::finish(h);
+            if let Verdict::Refused(r) = w {
+                return refused(r);
+            }
+            return ScannedDeck {
+                verdict: Verdict::Accepted,
+                hour: h,
+                sources,
+                deliveries,
+            };
+        } else {
+            let x = source_at(s, at + 1, letter, n, &slo, &shi);
+            let v = x.verdict;
+            if let Verdict::Refused(r) = v {
+                return refused(r);
+            }
+            let m = h.nsources;
+            let k = x.key;
+            slo[m] = k.lo;
+            shi[m] = k.hi;
+            let e = x.entry;
+            let p = e.plant;
+            high[m] = hour::unit_high(p);
+            let place = x.place;
+            sources[m] = place;
+            h.sources[m] = e;
+            h.nsources = m + 1;
+            at = x.next;
+        }
+    }
+    let line = hour::next_line(Counts {
+        sources: h.nsources,
+        deliveries: h.ndeliveries,
+        directs: h.ndirects,
+    });
+    refused(Refusal::Form(line))
+}
+
+// One pass over the deck: 1, then the first faulty line with the least of 2 to 9, then 10 and 11.
+pub fn scan(s: &[u8]) -> ScannedDeck
+    ensures { λ r. ⌜ Scanned (now (s .entry)) (reading (now (s .entry))) r ⌝ }
+{
+    if 8192 < s.len() {
+        return refused(Refusal::TooLong);
+    }
+    let Step::At(p) = text::byte(s, 0, 72) else {
+        return refused(Refusal::Form(1));
+    };
+    let HeadLine::Read(losses, next) = lines::head(s, p) else {
+        return refused(Refusal::Form(1));
+    };
+    if !ranges::losses_in_range(losses) {
+        return refused(Refusal::Range(1));
+    }
+    rows(s, losses, next)
+}
+
+pub fn read(s: &[u8]) -> ReadHour
+    ensures { λ r. ⌜ r ≡ readAnswer (reading (now (s .entry))) ⌝ }
+{
+    let x = scan(s);
+    let verdict = x.verdict;
+    let hour = x.hour;
+    ReadHour { verdict, hour }
+}
+
+pub fn check_deck(s: &[u8]) -> Verdict
+    ensures { λ r. ⌜ r ≡ verdictOf (reading (now (s .entry))) ⌝ }
+{
+    let x = scan(s);
+    x.verdict
+}
+
+fn part_at<'a>(s: &'a [u8], p: Place) -> &'a [u8]
+    requires { ⌜ (p .from ≤ p .upto) × (p .upto ≤ length (now s)) ⌝ }
+    ensures { λ r. ⌜ now r ≡ bytesOf (now (s .entry)) p ⌝ }
+{
+    let from = p.from;
+    let upto = p.upto;
+    &s[from..upto]
+}
+
+// The part of the deck at a label's own bytes; empty for an entry that the deck lacks, and for a refused deck.
+pub fn source_label<'a>(s: &'a [u8], i: usize) -> &'a [u8]
+    ensures { λ r. ⌜ now r ≡ sourcePart (now (s .entry)) i ⌝ }
+{
+    let x = scan(s);
+    if 32 <= i {
+        return &s[0..0];
+    }
+    let p = x.sources[i];
+    part_at(s, p)
+}
+
+pub fn delivery_label<'a>(s: &'a [u8], i: usize) -> &'a [u8]
+    ensures { λ r. ⌜ now r ≡ deliveryPart (now (s .entry)) i ⌝ }
+{
+    let x = scan(s);
+    if 32 <= i {
+        return &s[0..0];
+    }
+    let p = x.deliveries[i];
+    part_at(s, p)
+}

@@ -1,0 +1,3 @@
+pub mod Shape
+pub mod Loops
+pub mod ShapeTells

@@ -1,0 +1,196 @@
+// Whether a label is one with zeros after it, and whether the entries past a record's counts are blank.
+// Contracts cite this crate's Shape. Internal: the test of 15 calls it.
+ghost use mathlib.Core.Path.{_≡_};
+ghost use Prim.Native.Nat.{_≤_, _-_};
+ghost use Rattle.entries.specs.Shape.{ownByte, padded, ownLabel, blankLabel, blankPlant, blankBasis, sourceBlank, deliveryBlank, directBlank, sourcesBlank, deliveriesBlank, directsBlank, restBlank};
+ghost use Rattle.hour.specs.Tried.{countsOf, Few};
+use rules::Basis;
+use rules::Delivery;
+use rules::Direct;
+use rules::Hour;
+use rules::Label;
+use rules::Plant;
+use rules::Source;
+
+fn size(x: u8) -> usize
+    ensures { λ r. ⌜ r ≡ x ⌝ }
+{
+    x as usize
+}
+
+fn own_byte(inside: bool, b: u8) -> bool
+    ensures { λ r. ⌜ r ≡ ownByte inside b ⌝ }
+{
+    if !inside {
+        return b == 0;
+    }
+    if b < 32 {
+        return false;
+    }
+    b <= 126
+}
+
+// Characters as far as the label goes, and zeros after them.
+fn is_padded(l: Label) -> bool
+    ensures { λ r. ⌜ r ≡ padded l ⌝ }
+{
+    let n = size(l.len);
+    let mut i: usize = 0;
+    while i < 16 {
+        if !own_byte(i < n, l.bytes[i]) {
+            return false;
+        }
+        i += 1;
+    }
+    true
+}
+
+pub fn is_label(l: Label) -> bool
+    ensures { λ r. ⌜ r ≡ ownLabel l ⌝ }
+{
+    if l.len < 1 {
+        return false;
+    }
+    if 16 < l.len {
+        return false;
+    }
+    is_padded(l)
+}
+
+fn is_blank_label(l: Label) -> bool
+    ensures { λ r. ⌜ r ≡ blankLabel l ⌝ }
+{
+    if l.len != 0 {
+        return false;
+    }
+    is_padded(l)
+}
+
+fn is_blank_plant(p: Plant) -> bool
+    ensures { λ r. ⌜ r ≡ blankPlant p ⌝ }
+{
+    match p {
+        Plant::Unit(u) => false,
+        Plant::Purchase { g, rate } => false,
+        Plant::Fixed { g } => g == 0,
+    }
+}
+
+fn is_blank_source(x: Source) -> bool
+    ensures { λ r. ⌜ r ≡ sourceBlank x ⌝ }
+{
+    let p = x.plant;
+    if !is_blank_plant(p) {
+        return false;
+    }
+    let l = x.label;
+    is_blank_label(l)
+}
+
+fn is_blank_delivery(x: Delivery) -> bool
+    ensures { λ r. ⌜ r ≡ deliveryBlank x ⌝ }
+{
+    let s = x.sequence;
+    if s.0 != 0 {
+        return false;
+    }
+    if x.kind != 0 {
+        return false;
+    }
+    if x.block != 0 {
+        return false;
+    }
+    if x.mwh != 0 {
+        return false;
+    }
+    let l = x.label;
+    is_blank_label(l)
+}
+
+fn is_blank_basis(b: Basis) -> bool
+    ensures { λ r. ⌜ r ≡ blankBasis b ⌝ }
+{
+    match b {
+        Basis::Low => true,
+        Basis::Generation => false,
+        Basis::Mwh(v) => false,
+    }
+}
+
+fn is_blank_direct(x: Direct) -> bool
+    ensures { λ r. ⌜ r ≡ directBlank x ⌝ }
+{
+    let b = x.basis;
+    if !is_blank_basis(b) {
+        return false;
+    }
+    if x.percent != 0 {
+        return false;
+    }
+    if x.source != 0 {
+        return false;
+    }
+    x.delivery == 0
+}
+
+fn sources_blank(h: Hour) -> bool
+    requires { ⌜ h .nsources ≤ 32 ⌝ }
+    ensures { λ r. ⌜ r ≡ sourcesBlank h (32 - h .nsources) ⌝ }
+{
+    let n = h.nsources;
+    let mut i: usize = 0;
+    while i < 32 - n {
+        let x = h.sources[n + i];
+        if !is_blank_source(x) {
+            return false;
+        }
+        i += 1;
+    }
+    true
+}
+
+fn deliveries_blank(h: Hour) -> bool
+    requires { ⌜ h .ndeliveries ≤ 32 ⌝ }
+    ensures { λ r. ⌜ r ≡ deliveriesBlank h (32 - h .ndeliveries) ⌝ }
+{
+    let n = h.ndeliveries;
+    let mut i: usize = 0;
+    while i < 32 - n {
+        let x = h.deliveries[n + i];
+        if !is_blank_delivery(x) {
+            return false;
+        }
+        i += 1;
+    }
+    true
+}
+
+fn directs_blank(h: Hour) -> bool
+    requires { ⌜ h .ndirects ≤ 32 ⌝ }
+    ensures { λ r. ⌜ r ≡ directsBlank h (32 - h .ndirects) ⌝ }
+{
+    let n = h.ndirects;
+    let mut i: usize = 0;
+    while i < 32 - n {
+        let x = h.directs[n + i];
+        if !is_blank_direct(x) {
+            return false;
+        }
+        i += 1;
+    }
+    true
+}
+
+// The entries past each count.
+pub fn rest_blank(h: Hour) -> bool
+    requires { ⌜ Few (countsOf h) ⌝ }
+    ensures { λ r. ⌜ r ≡ restBlank h ⌝ }
+{
+    if !sources_blank(h) {
+        return false;
+    }
+    if !deliveries_blank(h) {
+        return false;
+    }
+    directs_blank(h)
+}

@@ -1,0 +1,157 @@
+-- Laws of the first that passes and of all that pass, up to a number.
+use mathlib.Core.Path.{_≡_, refl, ap, sym, _∙_}
+use mathlib.Core.Bool.{Bool, true, false, not, _&&_}
+use mathlib.Core.List.{List}
+use mathlib.Core.Logic.{⊎-elim}
+use mathlib.Core.Option.{Option, none, some}
+use Prim.Native.Nat.{ℕ, zero, suc, _+_, _<_, _≤_}
+use native.Mathlib.Nat.{eq-or-lt-of-le, le-of-suc-le-suc}
+use native.Mathlib.Numerals.{add-one}
+use native.Mathlib.Omega.{arith}
+use lib.Dec.{ltb}
+use lib.ListN.{length, getD, set}
+use lib.Seq.{getD-set-same, getD-set-other}
+use borrow.Author.Tests.{eq-eqb, ne-eqb, lt-ltb, le-ltb}
+use Rattle.rules.specs.Words as words
+use Rattle.rules.specs.Words.{if_then_else_, allTo, _otherwise_, findTo}
+use Rattle.laws.specs.Choices.{true-not-false}
+use Rattle.laws.specs.Lists.{findTo-passes}
+use Rattle.rules.specs.declared.InputSequence.{InputSequence}
+use Rattle.hour.specs.Keys.{spotOf}
+use Rattle.hour.specs.Tried.{isFound, placedIs}
+use Rattle.hour.specs.declared.Spot.{Spot}
+use Rattle.hour.specs.declared.Spot.the-variants.{At, Nowhere}
+
+-- Truth values.
+
+pub truths-same : (p q : Bool) → (p ≡ true → q ≡ true) → (q ≡ true → p ≡ true) → p ≡ q
+truths-same true q f g = sym (f refl)
+truths-same false true f g = g refl
+truths-same false false f g = refl
+
+pub and-false : (b : Bool) → (b && false) ≡ false
+and-false true = refl
+and-false false = refl
+
+pub and-true : (b : Bool) → (b && true) ≡ b
+and-true true = refl
+and-true false = refl
+
+-- The loop that finds: its start, its step and its ends in the code's words.
+
+pub findTo-zero : (p : ℕ → Bool) → findTo p 0 ≡ none
+unfolding words.findTo
+findTo-zero p = refl
+
+pub findTo-more : (p : ℕ → Bool) (n : ℕ) → findTo p n ≡ none → p n ≡ false → findTo p (n + 1) ≡ none
+unfolding words.findTo
+findTo-more p n e f = rw (add-one, e, f)
+
+pub findTo-here : (p : ℕ → Bool) (n i : ℕ) → i < n → findTo p i ≡ none → p i ≡ true → findTo p n ≡ some i
+unfolding words.findTo
+findTo-here p zero i h e t = absurd (omega arith)
+findTo-here p (suc n) i h e t =
+    ⊎-elim (λ (q : i ≡ n). rw (← q, e, t)) (λ l. rw (findTo-here p n i l e t)) (eq-or-lt-of-le (le-of-suc-le-suc h))
+
+pub findTo-end : (p : ℕ → Bool) (n i : ℕ) → i ≤ n → n ≤ i → findTo p i ≡ none → findTo p n ≡ none
+findTo-end p n i a b e = let q : i ≡ n = omega arith in rw q at e
+
+-- the same test at each place finds the same
+pub findTo-same : (p q : ℕ → Bool) (n : ℕ) → ((i : ℕ) → i < n → p i ≡ q i) → findTo p n ≡ findTo q n
+unfolding words.findTo
+findTo-same p q zero h = refl
+findTo-same p q (suc n) h = rw (findTo-same p q n (λ i l. h i (omega arith)), h n (omega arith))
+
+-- one is found unless all fail
+pub found-not-all : (p : ℕ → Bool) (n : ℕ) → not (allTo (λ i. not (p i)) n) ≡ isFound (spotOf (findTo p n))
+unfolding words.allTo words.findTo
+found-not-all p zero = refl
+found-not-all p (suc n) = go (findTo p n) (p n) (allTo (λ i. not (p i)) n) (found-not-all p n)
+  where
+    go : (x : Option ℕ) (b a : Bool) → not a ≡ isFound (spotOf x) → not (a && not b) ≡ isFound (spotOf (x otherwise (if b then some n else none)))
+    go none true true e = refl
+    go none false true e = refl
+    go none b false e = true-not-false e
+    go (some i) b true e = true-not-false (sym e)
+    go (some i) b false e = refl
+
+otherwise-none : (x : Option ℕ) → (x otherwise none) ≡ x
+otherwise-none none = refl
+otherwise-none (some i) = refl
+
+-- where at most one passes, the first that passes another test too is that one or none
+abbrev pub kept : (ℕ → Bool) → Option ℕ → Option ℕ
+kept u none = none
+kept u (some i) = if u i then some i else none
+
+pub findTo-both : (u p : ℕ → Bool) (n : ℕ) → ((i j : ℕ) → i < n → j < n → p i ≡ true → p j ≡ true → i ≡ j) → findTo (λ i. u i && p i) n ≡ kept u (findTo p n)
+unfolding words.findTo
+findTo-both u p zero one = refl
+findTo-both u p (suc n) one =
+    rw (findTo-both u p n (λ i j a b. one i j (omega arith) (omega arith)))
+    (go (findTo p n) refl (u n) refl (p n) refl)
+  where
+    go : (x : Option ℕ) → findTo p n ≡ x → (v : Bool) → u n ≡ v → (b : Bool) → p n ≡ b
+        → (kept u x otherwise (if v && b then some n else none)) ≡ kept u (x otherwise (if b then some n else none))
+    go none e true ve true be = rw ve
+    go none e false ve true be = rw ve
+    go none e v ve false be = rw (and-false v)
+    go (some i) e v ve true be =
+        let f = findTo-passes p n i e in
+        let q = one i n (omega (arith, f .0)) (omega arith) (f .1) be in
+        absurd (omega (arith, f .0))
+    go (some i) e v ve false be = rw (and-false v) (otherwise-none (if u i then some i else none))
+
+-- What a search's answer tells.
+
+pub spot-found : (x : Option ℕ) (r : Spot) (i : ℕ) → r ≡ spotOf x → r ≡ At i → x ≡ some i
+spot-found none r i e f = let z : _≡_ {A = ℕ} 0 1 = cc in absurd (omega arith)
+spot-found (some j) r i e f = let q : j ≡ i = cc in ap some q
+
+pub spot-none : (x : Option ℕ) (r : Spot) → r ≡ spotOf x → r ≡ Nowhere → x ≡ none
+spot-none none r e f = refl
+spot-none (some j) r e f = let z : _≡_ {A = ℕ} 0 1 = cc in absurd (omega arith)
+
+pub spot-below : (p : ℕ → Bool) (n : ℕ) (r : Spot) (i : ℕ) → r ≡ spotOf (findTo p n) → r ≡ At i → i < n
+spot-below p n r i e f = findTo-passes p n i (spot-found (findTo p n) r i e f) .0
+
+-- The first delivery with a number of its own, or without.
+
+pub placed-zero : (placed : Bool) (s : InputSequence) → s .0 ≡ 0 → not placed ≡ placedIs placed s
+placed-zero true s e = rw (eq-eqb (s .0) 0 e)
+placed-zero false s e = rw (eq-eqb (s .0) 0 e)
+
+pub placed-other : (placed : Bool) (s : InputSequence) → (s .0 ≡ 0 → ⊥) → placed ≡ placedIs placed s
+placed-other true s e = rw (ne-eqb (s .0) 0 e)
+placed-other false s e = rw (ne-eqb (s .0) 0 e)
+
+-- What sums of known numbers tell.
+
+pub sum-above : {r s t a b c : ℕ} → r ≡ a → s ≡ b → t ≡ c → r < s + t → ltb a (b + c) ≡ true
+sum-above {r} {s} {t} {a} {b} {c} x y z h = lt-ltb a (b + c) (omega arith)
+
+pub sum-within : {r s t a b c : ℕ} → r ≡ a → s ≡ b → t ≡ c → s + t ≤ r → ltb a (b + c) ≡ false
+sum-within {r} {s} {t} {a} {b} {c} x y z h = le-ltb a (b + c) (omega arith)
+
+-- All that pass, up to a number.
+
+pub allTo-zero : (p : ℕ → Bool) → allTo p 0 ≡ true
+unfolding words.allTo
+allTo-zero p = refl
+
+pub allTo-more : (p : ℕ → Bool) (n : ℕ) → allTo p (n + 1) ≡ (allTo p n && p n)
+unfolding words.allTo
+allTo-more p n = rw add-one
+
+pub allTo-same : (p q : ℕ → Bool) (n : ℕ) → ((i : ℕ) → i < n → p i ≡ q i) → allTo p n ≡ allTo q n
+unfolding words.allTo
+allTo-same p q zero h = refl
+allTo-same p q (suc n) h = rw (allTo-same p q n (λ i l. h i (omega arith)), h n (omega arith))
+
+-- of a list with its element n set
+pub allTo-set : {B : Type 0} (f : B → Bool) (xs : List B) (d x : B) (n : ℕ) → n < length xs
+    → allTo (λ i. f (getD (set xs n x) i d)) (n + 1) ≡ (allTo (λ i. f (getD xs i d)) n && f x)
+allTo-set f xs d x n h =
+    allTo-more (λ i. f (getD (set xs n x) i d)) n
+    ∙ ap (λ (b : Bool). b && f (getD (set xs n x) n d)) (allTo-same (λ i. f (getD (set xs n x) i d)) (λ i. f (getD xs i d)) n (λ i l. ap f (getD-set-other xs n i x d (λ e. omega arith))))
+    ∙ ap (λ y. allTo (λ i. f (getD xs i d)) n && f y) (getD-set-same xs n x d h)

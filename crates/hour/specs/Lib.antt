@@ -1,0 +1,9 @@
+pub mod Keys
+pub mod Tried
+pub mod Finds
+pub mod Packed
+pub mod KeyTells
+pub mod Pairs
+pub mod Kept
+pub mod TriedIsTaken
+pub mod TablesKept

@@ -1,0 +1,405 @@
+// Document 01's rules 2 to 9 tried in their order on one more line of a growing hour, and 10 and 11 at its end.
+// Contracts cite rules' Reading, and of this crate Keys (labels as numbers) and Tried (2 to 9 on tables kept beside the hour).
+ghost use mathlib.Core.Path.{_≡_};
+ghost use Prim.Native.Nat.{_+_, _≤_, _<_};
+ghost use Rattle.rules.specs.Units.{generation, ordered, levelled};
+ghost use Rattle.rules.specs.Reading.{generated, delivered, finished};
+ghost use Rattle.hour.specs.Keys.{halfOf, keyOf, sameKey, keyFound};
+ghost use Rattle.hour.specs.Tried.{verdictOf, entryOf, countsOf, Few, nextLine, sourceTried, deliveryTried, unitHigh, basisCode, codeLeaves, belowMost, pairFound, directTried, placedIs, firstPlaced};
+use rules::Basis;
+use rules::Delivery;
+use rules::Direct;
+use rules::Hour;
+use rules::InputSequence;
+use rules::Label;
+use rules::Plant;
+use rules::Refusal;
+use rules::Unit;
+
+pub enum Verdict {
+    Accepted,
+    Refused(Refusal),
+}
+
+// A D line's entry, or why there is none.
+pub enum Entry {
+    Named(Direct),
+    Unnamed(Refusal),
+}
+
+// The first place that fits.
+pub enum Spot {
+    At(usize),
+    Nowhere,
+}
+
+// The unit and the delivery that a D line names.
+pub enum Pair {
+    Both(usize, usize),
+    Missing,
+}
+
+// The sixteen bytes of a label as two numbers.
+pub struct Key {
+    pub lo: u64,
+    pub hi: u64,
+}
+
+// How many entries of each class the hour so far has.
+pub struct Counts {
+    pub sources: usize,
+    pub deliveries: usize,
+    pub directs: usize,
+}
+
+pub struct DirectLine {
+    pub basis: Basis,
+    pub percent: u32,
+    pub unit: Key,
+    pub delivery: Key,
+}
+
+fn byte(x: u8) -> u64
+    ensures { λ r. ⌜ (r ≡ x) × (r < 256) ⌝ }
+{
+    x as u64
+}
+
+fn wide(x: u32) -> u64
+    ensures { λ r. ⌜ (r ≡ x) × (r < 4294967296) ⌝ }
+{
+    x as u64
+}
+
+// Eight of a label's bytes to the base 256.
+fn half_of(bytes: [u8; 16], from: usize) -> u64
+    requires { ⌜ from ≤ 8 ⌝ }
+    ensures { λ r. ⌜ r ≡ halfOf bytes from ⌝ }
+{
+    let mut half: u64 = 0;
+    let mut i: usize = 0;
+    while i < 8 {
+        half = half * 256 + byte(bytes[from + i]);
+        i += 1;
+    }
+    half
+}
+
+pub fn key_of(l: Label) -> Key
+    ensures { λ r. ⌜ r ≡ keyOf l ⌝ }
+{
+    let b = l.bytes;
+    let lo = half_of(b, 0);
+    let hi = half_of(b, 8);
+    Key { lo, hi }
+}
+
+fn same_key(a: Key, b: Key) -> bool
+    ensures { λ r. ⌜ r ≡ sameKey a b ⌝ }
+{
+    if a.lo != b.lo {
+        return false;
+    }
+    a.hi == b.hi
+}
+
+// The first of n places of the tables where a key stands.
+pub fn find_key(lo: &[u64; 32], hi: &[u64; 32], n: usize, k: Key) -> Spot
+    requires { ⌜ n ≤ 32 ⌝ }
+    ensures { λ r. ⌜ r ≡ keyFound (now (lo .entry)) (now (hi .entry)) n k ⌝ }
+{
+    let mut i: usize = 0;
+    while i < n {
+        let here = Key {
+            lo: lo[i],
+            hi: hi[i],
+        };
+        if same_key(here, k) {
+            return Spot::At(i);
+        }
+        i += 1;
+    }
+    Spot::Nowhere
+}
+
+fn in_order(u: Unit) -> bool
+    ensures { λ r. ⌜ r ≡ ordered u ⌝ }
+{
+    let c = u.curve;
+    if u.e < c.k {
+        return false;
+    }
+    if u.o < u.e {
+        return false;
+    }
+    if u.n < u.o {
+        return false;
+    }
+    if u.g < u.n {
+        return false;
+    }
+    u.g <= u.h
+}
+
+fn in_levels(p: Plant) -> bool
+    ensures { λ r. ⌜ r ≡ levelled p ⌝ }
+{
+    match p {
+        Plant::Unit(u) => in_order(u),
+        Plant::Purchase { g, rate } => true,
+        Plant::Fixed { g } => true,
+    }
+}
+
+pub fn next_line(n: Counts) -> usize
+    requires { ⌜ Few n ⌝ }
+    ensures { λ r. ⌜ r ≡ nextLine n ⌝ }
+{
+    n.sources + n.deliveries + n.directs + 2
+}
+
+// A source line: 2 to 6.
+pub fn take_source(
+    n: Counts,
+    ranged: bool,
+    plant: Plant,
+    key: Key,
+    lo: &[u64; 32],
+    hi: &[u64; 32],
+) -> Verdict
+    requires { ⌜ Few n ⌝ }
+    ensures { λ r. ⌜ r ≡ verdictOf (sourceTried n ranged plant key (now (lo .entry)) (now (hi .entry))) ⌝ }
+{
+    let line = next_line(n);
+    if n.deliveries + n.directs != 0 {
+        return Verdict::Refused(Refusal::Form(line));
+    }
+    if !ranged {
+        return Verdict::Refused(Refusal::Range(line));
+    }
+    if 32 <= n.sources {
+        return Verdict::Refused(Refusal::Full(line));
+    }
+    if let Spot::At(i) = find_key(lo, hi, n.sources, key) {
+        return Verdict::Refused(Refusal::Used(line));
+    }
+    if !in_levels(plant) {
+        return Verdict::Refused(Refusal::Levels(line));
+    }
+    Verdict::Accepted
+}
+
+// A T line: 2 to 5.
+pub fn take_delivery(n: Counts, ranged: bool, key: Key, lo: &[u64; 32], hi: &[u64; 32]) -> Verdict
+    requires { ⌜ Few n ⌝ }
+    ensures { λ r. ⌜ r ≡ verdictOf (deliveryTried n ranged key (now (lo .entry)) (now (hi .entry))) ⌝ }
+{
+    let line = next_line(n);
+    if n.directs != 0 {
+        return Verdict::Refused(Refusal::Form(line));
+    }
+    if !ranged {
+        return Verdict::Refused(Refusal::Range(line));
+    }
+    if 32 <= n.deliveries {
+        return Verdict::Refused(Refusal::Full(line));
+    }
+    if let Spot::At(i) = find_key(lo, hi, n.deliveries, key) {
+        return Verdict::Refused(Refusal::Used(line));
+    }
+    Verdict::Accepted
+}
+
+// A unit's high; 0 for a source that is no unit.
+pub fn unit_high(p: Plant) -> u32
+    ensures { λ r. ⌜ r ≡ unitHigh p ⌝ }
+{
+    match p {
+        Plant::Unit(u) => u.h,
+        Plant::Purchase { g, rate } => 0,
+        Plant::Fixed { g } => 0,
+    }
+}
+
+pub fn basis_code(b: Basis) -> u64
+    ensures { λ r. ⌜ r ≡ basisCode b ⌝ }
+{
+    match b {
+        Basis::Low => 1,
+        Basis::Generation => 2,
+        Basis::Mwh(v) => wide(v) + 3,
+    }
+}
+
+fn below_most(b: Basis, most: u32) -> bool
+    ensures { λ r. ⌜ r ≡ belowMost b most ⌝ }
+{
+    match b {
+        Basis::Low => true,
+        Basis::Generation => true,
+        Basis::Mwh(v) => v < most,
+    }
+}
+
+fn code_leaves(code: u64, b: Basis) -> bool
+    ensures { λ r. ⌜ r ≡ codeLeaves code b ⌝ }
+{
+    if code == 0 {
+        return true;
+    }
+    code == basis_code(b)
+}
+
+// The unit and the delivery that a D line names (7).
+fn find_pair(
+    n: Counts,
+    x: DirectLine,
+    slo: &[u64; 32],
+    shi: &[u64; 32],
+    tlo: &[u64; 32],
+    thi: &[u64; 32],
+    high: &[u32; 32],
+) -> Pair
+    requires { ⌜ Few n ⌝ }
+    ensures { λ r. ⌜ r ≡ pairFound n x (now (slo .entry)) (now (shi .entry)) (now (tlo .entry)) (now (thi .entry)) (now (high .entry)) ⌝ }
+{
+    let Spot::At(i) = find_key(slo, shi, n.sources, x.unit) else {
+        return Pair::Missing;
+    };
+    if high[i] == 0 {
+        return Pair::Missing;
+    }
+    let Spot::At(j) = find_key(tlo, thi, n.deliveries, x.delivery) else {
+        return Pair::Missing;
+    };
+    Pair::Both(i, j)
+}
+
+// A D line: 3, 4 and 7 to 9.
+pub fn take_direct(
+    n: Counts,
+    ranged: bool,
+    x: DirectLine,
+    slo: &[u64; 32],
+    shi: &[u64; 32],
+    tlo: &[u64; 32],
+    thi: &[u64; 32],
+    high: &[u32; 32],
+    based: &[u64; 32],
+    percents: &[u32; 32],
+) -> Entry
+    requires { ⌜ Few n ⌝ }
+    ensures { λ r. ⌜ r ≡ entryOf (directTried n ranged x (record { slo = now (slo .entry); shi = now (shi .entry); tlo = now (tlo .entry); thi = now (thi .entry); high = now (high .entry); based = now (based .entry); percents = now (percents .entry) })) ⌝ }
+{
+    let line = next_line(n);
+    if !ranged {
+        return Entry::Unnamed(Refusal::Range(line));
+    }
+    if 32 <= n.directs {
+        return Entry::Unnamed(Refusal::Full(line));
+    }
+    let Pair::Both(i, j) = find_pair(n, x, slo, shi, tlo, thi, high) else {
+        return Entry::Unnamed(Refusal::Names(line));
+    };
+    let b = x.basis;
+    if !code_leaves(based[i], b) {
+        return Entry::Unnamed(Refusal::OtherBasis(line));
+    }
+    if !below_most(b, high[i]) {
+        return Entry::Unnamed(Refusal::OtherBasis(line));
+    }
+    if 100 < wide(percents[i]) + wide(x.percent) {
+        return Entry::Unnamed(Refusal::Percents(line));
+    }
+    Entry::Named(Direct {
+        basis: b,
+        percent: x.percent,
+        source: i,
+        delivery: j,
+    })
+}
+
+fn generation_of(p: Plant) -> u32
+    ensures { λ r. ⌜ r ≡ generation p ⌝ }
+{
+    match p {
+        Plant::Unit(u) => u.g,
+        Plant::Purchase { g, rate } => g,
+        Plant::Fixed { g } => g,
+    }
+}
+
+fn sum_generated(h: Hour) -> u64
+    requires { ⌜ h .nsources ≤ 32 ⌝ }
+    ensures { λ r. ⌜ (r ≡ generated h) × (r ≤ 137438953472) ⌝ }
+{
+    let n = h.nsources;
+    let mut sum: u64 = 0;
+    let mut i: usize = 0;
+    while i < n {
+        let x = h.sources[i];
+        let p = x.plant;
+        sum = sum + wide(generation_of(p));
+        i += 1;
+    }
+    sum
+}
+
+fn sum_delivered(h: Hour) -> u64
+    requires { ⌜ h .ndeliveries ≤ 32 ⌝ }
+    ensures { λ r. ⌜ (r ≡ delivered h) × (r ≤ 137438953472) ⌝ }
+{
+    let n = h.ndeliveries;
+    let mut sum: u64 = 0;
+    let mut i: usize = 0;
+    while i < n {
+        let x = h.deliveries[i];
+        sum = sum + wide(x.mwh);
+        i += 1;
+    }
+    sum
+}
+
+fn placed_is(placed: bool, s: InputSequence) -> bool
+    ensures { λ r. ⌜ r ≡ placedIs placed s ⌝ }
+{
+    if s.0 == 0 {
+        return !placed;
+    }
+    placed
+}
+
+// The first delivery with a number of its own, or the first without.
+fn first_placed(h: Hour, placed: bool) -> Spot
+    requires { ⌜ h .ndeliveries ≤ 32 ⌝ }
+    ensures { λ r. ⌜ r ≡ firstPlaced h placed ⌝ }
+{
+    let n = h.ndeliveries;
+    let mut i: usize = 0;
+    while i < n {
+        let x = h.deliveries[i];
+        let s = x.sequence;
+        if placed_is(placed, s) {
+            return Spot::At(i);
+        }
+        i += 1;
+    }
+    Spot::Nowhere
+}
+
+// After E: 10 and 11.
+pub fn finish(h: Hour) -> Verdict
+    requires { ⌜ Few (countsOf h) ⌝ }
+    ensures { λ r. ⌜ r ≡ verdictOf (finished h) ⌝ }
+{
+    if sum_generated(h) < wide(h.losses) + sum_delivered(h) {
+        return Verdict::Refused(Refusal::Overdrawn);
+    }
+    let Spot::At(i) = first_placed(h, false) else {
+        return Verdict::Accepted;
+    };
+    if let Spot::At(j) = first_placed(h, true) {
+        return Verdict::Accepted;
+    }
+    Verdict::Refused(Refusal::Unplaced(h.nsources + 2 + i))
+}
