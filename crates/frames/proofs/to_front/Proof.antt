@@ -1,0 +1,67 @@
+-- The window keeps its length.
+use Prim.Native.Nat.{_≤_, _-_}
+use mathlib.Core.Path.{_≡_}
+use lib.ListN.{length}
+use borrow.Author.Needs.{needs}
+use Rattle.frames.proofs.to_front.Statement.{statement}
+use Rattle.frames.proofs.to_front.Tie as tie
+use Rattle.frames.proofs.to_front.Reads as reads
+use Rattle.frames.proofs.to_front.Lts as lts
+
+abbrev Inv-loop : tie.InvT-loop
+Inv-loop window₀ from have i₀ window i = (from ≤ i) × (length window ≡ length window₀)
+
+abbrev μ-loop : tie.MeasureT-loop
+μ-loop window₀ from have i₀ window i = have - i
+
+-- src/lib.rt:25:5
+loop-holds : tie.Need-loop-holds Inv-loop μ-loop
+loop-holds c = search needs
+
+-- src/lib.rt:26:28
+slice-read-window : tie.Need-slice-read-window Inv-loop μ-loop
+slice-read-window c = search needs
+
+-- src/lib.rt:26:16
+sub-window : tie.Need-sub-window Inv-loop μ-loop
+sub-window c = search needs
+
+-- src/lib.rt:26:9
+slice-write-window : tie.Need-slice-write-window Inv-loop μ-loop
+slice-write-window c = search needs
+
+-- src/lib.rt:27:9
+add-i : tie.Need-add-i Inv-loop μ-loop
+add-i c = search needs
+
+-- src/lib.rt:25:5
+loop-less : tie.Need-loop-less Inv-loop μ-loop
+loop-less c = search needs
+
+-- src/lib.rt:25:5
+loop-again : tie.Need-loop-again Inv-loop μ-loop
+loop-again c = search needs
+
+-- src/lib.rt:20:1
+same-length : tie.Need-same-length Inv-loop μ-loop
+same-length c = search needs
+
+-- src/lib.rt:20:1
+returns : tie.Need-returns Inv-loop μ-loop
+returns c = search needs
+
+pub to-front-spec : {M : Type 1} → statement M
+to-front-spec =
+    tie.close
+    (tie.spec
+    Inv-loop
+    μ-loop
+    loop-holds
+    slice-read-window
+    sub-window
+    slice-write-window
+    add-i
+    loop-less
+    loop-again
+    same-length
+    returns)

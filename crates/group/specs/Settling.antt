@@ -1,0 +1,66 @@
+-- A remainder's outcome as a struct, and the outcome at each test of the ladder and of credit.
+use mathlib.Core.List.{List}
+use mathlib.Core.Path.{_≡_, sym, ap, _∙_}
+use Prim.Native.Nat.{ℕ, _-_, _≤_, _<_}
+use borrow.Author.Tests.{le-leb, lt-leb}
+use Rattle.group.specs.declared.Settled.{Settled}
+use Rattle.group.specs.declared.Verdict.the-variants.{Done, Refused}
+use Rattle.rules.specs.Group.{room, normal, oil, emergency, last, headroom, unloading, crediting, lastStep, plain, all, toEmergency, unload, credit, remainder}
+use Rattle.rules.specs.Refusals.{Outcome, accepted, refused}
+use Rattle.rules.specs.declared.InternalSequence.{InternalSequence}
+use Rattle.rules.specs.declared.Refusal.{Refusal}
+use Rattle.rules.specs.declared.Refusal.the-variants.{NoRoom, NoHeadroom}
+use Rattle.rules.specs.declared.Running.{Running}
+
+-- refused: the states as they were
+abbrev pub settled : List Running → Outcome (List Running) → Settled
+settled ss (accepted us) = record { verdict = Done; states = us }
+settled ss (refused x) = record { verdict = Refused x; states = ss }
+
+module _ (ss : List Running) {o : Outcome (List Running)} where
+  pub settled-done : {us ws : List Running} {r : Settled} → r ≡ settled us (accepted us) → us ≡ ws → o ≡ accepted ws → r ≡ settled ss o
+  settled-done a b e = rw e (a ∙ ap (λ (xs : List Running). settled ss (accepted xs)) b)
+
+  pub settled-refused : {x : Refusal} → o ≡ refused x → settled ss (refused x) ≡ settled ss o
+  settled-refused e = ap (settled ss) (sym e)
+
+module _ (number : InternalSequence) (n : ℕ) (ss : List Running) (r : ℕ) where
+  pub unload-normal : r ≤ all (room normal) ss n → unload number n ss r ≡ accepted (plain (unloading normal) n ss r)
+  unfolding unload
+  unload-normal a = rw (le-leb r (all (room normal) ss n) a)
+
+  pub unload-oil : all (room normal) ss n < r → r ≤ all (room oil) ss n → unload number n ss r ≡ accepted (plain (unloading oil) n ss r)
+  unfolding unload
+  unload-oil a b = rw (lt-leb r (all (room normal) ss n) a, le-leb r (all (room oil) ss n) b)
+
+  pub unload-emergency : all (room normal) ss n < r → all (room oil) ss n < r → r ≤ all (room emergency) ss n → unload number n ss r ≡ accepted (plain (unloading emergency) n ss r)
+  unfolding unload
+  unload-emergency a b c = rw (lt-leb r (all (room normal) ss n) a, lt-leb r (all (room oil) ss n) b, le-leb r (all (room emergency) ss n) c)
+
+  pub unload-last : all (room normal) ss n < r → all (room oil) ss n < r → all (room emergency) ss n < r → r ≤ all (room last) ss n →
+      unload number n ss r ≡ accepted (plain lastStep n (toEmergency ss) (r - all (room emergency) ss n))
+  unfolding unload
+  unload-last a b c d =
+      rw (lt-leb r (all (room normal) ss n) a, lt-leb r (all (room oil) ss n) b, lt-leb r (all (room emergency) ss n) c, le-leb r (all (room last) ss n) d)
+
+  pub unload-none : all (room normal) ss n < r → all (room oil) ss n < r → all (room emergency) ss n < r → all (room last) ss n < r → unload number n ss r ≡ refused (NoRoom number)
+  unfolding unload
+  unload-none a b c d =
+      rw (lt-leb r (all (room normal) ss n) a, lt-leb r (all (room oil) ss n) b, lt-leb r (all (room emergency) ss n) c, lt-leb r (all (room last) ss n) d)
+
+  pub credit-up : r ≤ all headroom ss n → credit number n ss r ≡ accepted (plain crediting n ss r)
+  unfolding credit
+  credit-up a = rw (le-leb r (all headroom ss n) a)
+
+  pub credit-none : all headroom ss n < r → credit number n ss r ≡ refused (NoHeadroom number)
+  unfolding credit
+  credit-none a = rw (lt-leb r (all headroom ss n) a)
+
+module _ (number : InternalSequence) (n total took : ℕ) (ss : List Running) where
+  pub remainder-down : took ≤ total → remainder number n total took ss ≡ unload number n ss (total - took)
+  unfolding remainder
+  remainder-down h = rw (le-leb took total h)
+
+  pub remainder-up : total < took → remainder number n total took ss ≡ credit number n ss (took - total)
+  unfolding remainder
+  remainder-up h = rw (lt-leb took total h)
