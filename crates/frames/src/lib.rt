@@ -36,7 +36,10 @@ pub fn refill(window: &mut [u8], from: usize, have: usize) -> Unused
     to_front(window, from, have);
     let kept = have - from;
     let more = io::read_full(0, &mut window[kept..]);
-    Unused { from: 0, have: kept + more }
+    Unused {
+        from: 0,
+        have: kept + more,
+    }
 }
 
 // The window with at least half of it to use, or all that the input has left.
@@ -47,7 +50,10 @@ pub fn ready(window: &mut [u8], from: usize, have: usize) -> Unused
     if have - from < window.len() / 2 {
         return refill(window, from, have);
     }
-    Unused { from: from, have: have }
+    Unused {
+        from: from,
+        have: have,
+    }
 }
 
 fn is_digit(b: u8) -> bool {

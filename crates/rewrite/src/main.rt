@@ -60,25 +60,45 @@ fn turn(window: &mut [u8], from: usize, have: usize, k: u64) -> After
     let a = u.from;
     let b = u.have;
     if a == b {
-        return After { go: false, from: a, have: b };
+        return After {
+            go: false,
+            from: a,
+            have: b,
+        };
     }
     let Head::Bytes(size, start) = frames::deck_head(&window[a..b]) else {
         frames::put_line(b"frame ", k);
-        return After { go: false, from: a, have: b };
+        return After {
+            go: false,
+            from: a,
+            have: b,
+        };
     };
     if b - a < start {
         frames::put_line(b"frame ", k);
-        return After { go: false, from: a, have: b };
+        return After {
+            go: false,
+            from: a,
+            have: b,
+        };
     }
     let first = a + start;
     let rest = (b - first) as u64;
     if rest < size {
         frames::put_line(b"frame ", k);
-        return After { go: false, from: a, have: b };
+        return After {
+            go: false,
+            from: a,
+            have: b,
+        };
     }
     let next = first + (size as usize);
     put_deck(&window[first..next]);
-    After { go: true, from: next, have: b }
+    After {
+        go: true,
+        from: next,
+        have: b,
+    }
 }
 
 fn run(window: &mut [u8]) {
