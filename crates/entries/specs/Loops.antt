@@ -1,6 +1,8 @@
 -- Laws of loops that check all up to a number.
 use mathlib.Core.Path.{_≡_, refl, ap, sym, _∙_}
 use mathlib.Core.Bool.{Bool, true, false, _&&_}
+use mathlib.Core.List.{List, map}
+use lib.ListN.{length, length-map}
 use Prim.Native.Nat.{ℕ, zero, suc, _+_, _<_, _≤_}
 use native.Mathlib.Decide.{decLt}
 use native.Mathlib.Omega.{arith}
@@ -36,3 +38,7 @@ pub allTo-from : (p : ℕ → Bool) (n : ℕ) → ((i : ℕ) → i < n → p i �
 unfolding words.allTo
 allTo-from p zero h = refl
 allTo-from p (suc n) h = rw (allTo-from p n (λ i l. h i (omega arith)), h n (omega arith))
+
+-- What owning an array of structs tells of its list: its length is that of the list of their values.
+pub length-mapped : {A B : Type 0} (f : A → B) (l : List A) (n : ℕ) → length (map f l) ≡ n → length l ≡ n
+length-mapped f l n e = sym (length-map l f) ∙ e

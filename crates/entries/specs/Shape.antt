@@ -57,7 +57,7 @@ blankBasis (Mwh v) = false
 unfoldable pub directBlank : Direct → Bool
 directBlank x = blankBasis (x .basis) && (eqb (x .percent) 0 && (eqb (x .source) 0 && eqb (x .delivery) 0))
 
--- the entries past each count
+-- the first k entries past each count
 abbrev pub sourcesBlank : Hour → ℕ → Bool
 sourcesBlank h k = allTo (λ i. sourceBlank (sourceAt h (h .nsources + i))) k
 
@@ -67,5 +67,15 @@ deliveriesBlank h k = allTo (λ i. deliveryBlank (deliveryAt h (h .ndeliveries +
 abbrev pub directsBlank : Hour → ℕ → Bool
 directsBlank h k = allTo (λ i. directBlank (directAt h (h .ndirects + i))) k
 
+-- 32 places, and blanks in those past the count
+abbrev pub sourcesRest : Hour → Bool
+sourcesRest h = eqb (length (h .sources)) 32 && sourcesBlank h (32 - h .nsources)
+
+abbrev pub deliveriesRest : Hour → Bool
+deliveriesRest h = eqb (length (h .deliveries)) 32 && deliveriesBlank h (32 - h .ndeliveries)
+
+abbrev pub directsRest : Hour → Bool
+directsRest h = eqb (length (h .directs)) 32 && directsBlank h (32 - h .ndirects)
+
 unfoldable pub restBlank : Hour → Bool
-restBlank h = sourcesBlank h (32 - h .nsources) && (deliveriesBlank h (32 - h .ndeliveries) && directsBlank h (32 - h .ndirects))
+restBlank h = sourcesRest h && (deliveriesRest h && directsRest h)

@@ -1,12 +1,12 @@
 -- What the tests of shape tell: a label, or a blank entry, and nothing else passes.
 use mathlib.Core.Path.{_≡_, refl, ap, sym, _∙_}
-use mathlib.Core.Bool.{Bool, true, false, _&&_}
+use mathlib.Core.Bool.{true, _&&_}
 use mathlib.Core.List.{List, [], _∷_, _++_}
 use Prim.Native.Nat.{ℕ, zero, suc, _+_, _-_, _<_, _≤_}
 use native.Mathlib.Decide.{decLt}
 use native.Mathlib.Omega.{arith}
 use lib.Dec.{leb, ltb, eqb}
-use lib.ListN.{length, getD, take, replicate, length-append, length-replicate, getD-replicate, List·getD-append}
+use lib.ListN.{length, getD, replicate, length-append, length-replicate, getD-replicate, List·getD-append}
 use lib.Seq.{length-take-le, getD-take, getD-append-add, ext-getD}
 use borrow.Author.Tests.{leb-true, eqb-true, eq-eqb, le-leb, lt-ltb, le-ltb}
 use Rattle.rules.specs.Words as words

@@ -1,8 +1,8 @@
 // Whether a label is one with zeros after it, and whether the entries past a record's counts are blank.
 // Contracts cite this crate's Shape. Internal: the test of 15 calls it.
 ghost use mathlib.Core.Path.{_≡_};
-ghost use Prim.Native.Nat.{_≤_, _-_};
-ghost use Rattle.entries.specs.Shape.{ownByte, padded, ownLabel, blankLabel, blankPlant, blankBasis, sourceBlank, deliveryBlank, directBlank, sourcesBlank, deliveriesBlank, directsBlank, restBlank};
+ghost use Prim.Native.Nat.{_≤_};
+ghost use Rattle.entries.specs.Shape.{ownByte, padded, ownLabel, blankLabel, blankPlant, blankBasis, sourceBlank, deliveryBlank, directBlank, sourcesRest, deliveriesRest, directsRest, restBlank};
 ghost use Rattle.hour.specs.Tried.{countsOf, Few};
 use rules::Basis;
 use rules::Delivery;
@@ -135,7 +135,7 @@ fn is_blank_direct(x: Direct) -> bool
 
 fn sources_blank(h: Hour) -> bool
     requires { ⌜ h .nsources ≤ 32 ⌝ }
-    ensures { λ r. ⌜ r ≡ sourcesBlank h (32 - h .nsources) ⌝ }
+    ensures { λ r. ⌜ r ≡ sourcesRest h ⌝ }
 {
     let n = h.nsources;
     let mut i: usize = 0;
@@ -151,7 +151,7 @@ fn sources_blank(h: Hour) -> bool
 
 fn deliveries_blank(h: Hour) -> bool
     requires { ⌜ h .ndeliveries ≤ 32 ⌝ }
-    ensures { λ r. ⌜ r ≡ deliveriesBlank h (32 - h .ndeliveries) ⌝ }
+    ensures { λ r. ⌜ r ≡ deliveriesRest h ⌝ }
 {
     let n = h.ndeliveries;
     let mut i: usize = 0;
@@ -167,7 +167,7 @@ fn deliveries_blank(h: Hour) -> bool
 
 fn directs_blank(h: Hour) -> bool
     requires { ⌜ h .ndirects ≤ 32 ⌝ }
-    ensures { λ r. ⌜ r ≡ directsBlank h (32 - h .ndirects) ⌝ }
+    ensures { λ r. ⌜ r ≡ directsRest h ⌝ }
 {
     let n = h.ndirects;
     let mut i: usize = 0;

@@ -8,19 +8,14 @@ use Prim.Native.Nat.{ℕ, zero, suc, _+_, _<_, _≤_}
 use native.Mathlib.Nat.{eq-or-lt-of-le, le-of-suc-le-suc}
 use native.Mathlib.Numerals.{add-one}
 use native.Mathlib.Omega.{arith}
-use lib.Dec.{ltb}
 use lib.ListN.{length, getD, set}
 use lib.Seq.{getD-set-same, getD-set-other}
-use borrow.Author.Tests.{eq-eqb, ne-eqb, lt-ltb, le-ltb}
 use Rattle.rules.specs.Words as words
 use Rattle.rules.specs.Words.{if_then_else_, allTo, _otherwise_, findTo}
 use Rattle.laws.specs.Choices.{true-not-false}
 use Rattle.laws.specs.Lists.{findTo-passes}
-use Rattle.rules.specs.declared.InputSequence.{InputSequence}
 use Rattle.hour.specs.Keys.{spotOf}
-use Rattle.hour.specs.Tried.{isFound, placedIs}
-use Rattle.hour.specs.declared.Spot.{Spot}
-use Rattle.hour.specs.declared.Spot.the-variants.{At, Nowhere}
+use Rattle.hour.specs.Tried.{isFound}
 
 -- Truth values.
 
@@ -101,37 +96,6 @@ findTo-both u p (suc n) one =
         let q = one i n (omega (arith, f .0)) (omega arith) (f .1) be in
         absurd (omega (arith, f .0))
     go (some i) e v ve false be = rw (and-false v) (otherwise-none (if u i then some i else none))
-
--- What a search's answer tells.
-
-pub spot-found : (x : Option ℕ) (r : Spot) (i : ℕ) → r ≡ spotOf x → r ≡ At i → x ≡ some i
-spot-found none r i e f = let z : _≡_ {A = ℕ} 0 1 = cc in absurd (omega arith)
-spot-found (some j) r i e f = let q : j ≡ i = cc in ap some q
-
-pub spot-none : (x : Option ℕ) (r : Spot) → r ≡ spotOf x → r ≡ Nowhere → x ≡ none
-spot-none none r e f = refl
-spot-none (some j) r e f = let z : _≡_ {A = ℕ} 0 1 = cc in absurd (omega arith)
-
-pub spot-below : (p : ℕ → Bool) (n : ℕ) (r : Spot) (i : ℕ) → r ≡ spotOf (findTo p n) → r ≡ At i → i < n
-spot-below p n r i e f = findTo-passes p n i (spot-found (findTo p n) r i e f) .0
-
--- The first delivery with a number of its own, or without.
-
-pub placed-zero : (placed : Bool) (s : InputSequence) → s .0 ≡ 0 → not placed ≡ placedIs placed s
-placed-zero true s e = rw (eq-eqb (s .0) 0 e)
-placed-zero false s e = rw (eq-eqb (s .0) 0 e)
-
-pub placed-other : (placed : Bool) (s : InputSequence) → (s .0 ≡ 0 → ⊥) → placed ≡ placedIs placed s
-placed-other true s e = rw (ne-eqb (s .0) 0 e)
-placed-other false s e = rw (ne-eqb (s .0) 0 e)
-
--- What sums of known numbers tell.
-
-pub sum-above : {r s t a b c : ℕ} → r ≡ a → s ≡ b → t ≡ c → r < s + t → ltb a (b + c) ≡ true
-sum-above {r} {s} {t} {a} {b} {c} x y z h = lt-ltb a (b + c) (omega arith)
-
-pub sum-within : {r s t a b c : ℕ} → r ≡ a → s ≡ b → t ≡ c → s + t ≤ r → ltb a (b + c) ≡ false
-sum-within {r} {s} {t} {a} {b} {c} x y z h = le-ltb a (b + c) (omega arith)
 
 -- All that pass, up to a number.
 

@@ -1,6 +1,7 @@
 pub mod Keys
 pub mod Tried
 pub mod Finds
+pub mod Answers
 pub mod Packed
 pub mod KeyTells
 pub mod Pairs

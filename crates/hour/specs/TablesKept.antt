@@ -31,7 +31,7 @@ use Rattle.rules.specs.declared.Delivery.{Delivery}
 use Rattle.rules.specs.declared.Direct.{Direct}
 use Rattle.rules.specs.declared.Hour.{Hour}
 use Rattle.rules.specs.declared.Refusal.{Refusal}
-use Rattle.laws.specs.Choices.{true-not-false, both-true, refused-not-accepted, accepted-same, refuse-passed}
+use Rattle.laws.specs.Choices.{true-not-false, both-true, refused-not-accepted, accepted-same, refuse-passed, then-passed}
 use Rattle.laws.specs.Lists.{sumTo-set}
 use Rattle.laws.specs.Sums.{below-suc}
 use Rattle.roundtrip.specs.Fields.{inside-from}
@@ -40,7 +40,7 @@ use Rattle.ranges.specs.Inside as tests
 use Rattle.ranges.specs.Inside.{plantInside}
 use Rattle.hour.specs.Keys.{keyOf, spotOf, keyAt, keyTo}
 use Rattle.hour.specs.Tried as tried
-use Rattle.hour.specs.Tried.{verdictOf, entryOf, countsOf, isFound, sourceTried, deliveryTried, Tables, unitHigh, basisCode, codeLeaves, belowMost, pairFound, onPair, directTried}
+use Rattle.hour.specs.Tried.{verdictOf, entryOf, countsOf, nextLine, isFound, labelTried, sourceTried, deliveryTried, Tables, unitHigh, basisCode, codeLeaves, belowMost, pairFound, onPair, directTried}
 use Rattle.hour.specs.Finds.{truths-same, and-false, and-true, allTo-set}
 use Rattle.hour.specs.Pairs.{pair-within}
 use Rattle.hour.specs.KeyTells.{Labelled}
@@ -48,10 +48,10 @@ use Rattle.hour.specs.Kept.{keyed-none, keyed-more, High, Kept}
 use Rattle.hour.specs.declared.Key.{Key}
 use Rattle.hour.specs.declared.Counts.{Counts}
 use Rattle.hour.specs.declared.DirectLine.{DirectLine}
-use Rattle.hour.specs.declared.Pair.{Pair}
-use Rattle.hour.specs.declared.Pair.the-variants.{Both, Missing}
 use Rattle.hour.specs.declared.Verdict.the-variants.{Accepted, Refused}
 use Rattle.hour.specs.declared.Entry.the-variants.{Named, Unnamed}
+use Rattle.hour.specs.declared.Pair.{Pair}
+use Rattle.hour.specs.declared.Pair.the-variants.{Both, Missing}
 
 -- What the code's answers tell.
 
@@ -83,25 +83,27 @@ not-found : (x : Option ℕ) → isFound (spotOf x) ≡ false → x ≡ none
 not-found none e = refl
 not-found (some i) e = true-not-false e
 
+label-let : (line : ℕ) (inRange : Bool) (n : ℕ) (key : Key) (lo hi : List ℕ) → labelTried line inRange n key lo hi ≡ accepted tt → Let inRange n key lo hi
+unfolding tried.labelTried
+label-let line inRange n key lo hi e =
+    let a = refuse-passed (not inRange) _ _ tt e in
+    let b = refuse-passed (leb 32 n) _ _ tt (a .1) in
+    let c = refuse-passed (isFound (spotOf (keyTo lo hi key n))) _ _ tt (b .1) in
+    record { within = not-false inRange (a .0); room = leb-false 32 n (b .0); unused = not-found _ (c .0) }
+
 pub source-let : (n : Counts) (inRange : Bool) (plant : Plant) (key : Key) (lo hi : List ℕ) → sourceTried n inRange plant key lo hi ≡ accepted tt
     → Let inRange (n .sources) key lo hi
 unfolding tried.sourceTried
 source-let n inRange plant key lo hi e =
     let a = refuse-passed (not (eqb (n .deliveries + n .directs) 0)) _ _ tt e in
-    let b = refuse-passed (not inRange) _ _ tt (a .1) in
-    let c = refuse-passed (leb 32 (n .sources)) _ _ tt (b .1) in
-    let d = refuse-passed (isFound (spotOf (keyTo lo hi key (n .sources)))) _ _ tt (c .1) in
-    record { within = not-false inRange (b .0); room = leb-false 32 (n .sources) (c .0); unused = not-found _ (d .0) }
+    let b = then-passed (labelTried (nextLine n) inRange (n .sources) key lo hi) _ tt (a .1) in
+    label-let (nextLine n) inRange (n .sources) key lo hi (b .first)
 
 pub delivery-let : (n : Counts) (inRange : Bool) (key : Key) (lo hi : List ℕ) → deliveryTried n inRange key lo hi ≡ accepted tt
     → Let inRange (n .deliveries) key lo hi
 unfolding tried.deliveryTried
 delivery-let n inRange key lo hi e =
-    let a = refuse-passed (not (eqb (n .directs) 0)) _ _ tt e in
-    let b = refuse-passed (not inRange) _ _ tt (a .1) in
-    let c = refuse-passed (leb 32 (n .deliveries)) _ _ tt (b .1) in
-    let d = refuse-passed (isFound (spotOf (keyTo lo hi key (n .deliveries)))) _ _ tt (c .1) in
-    record { within = not-false inRange (b .0); room = leb-false 32 (n .deliveries) (c .0); unused = not-found _ (d .0) }
+    label-let (nextLine n) inRange (n .deliveries) key lo hi (refuse-passed (not (eqb (n .directs) 0)) _ _ tt e .1)
 
 pub record DirectLet (n : Counts) (inRange : Bool) (x : DirectLine) (t : Tables) (y : Direct) : Type 0 where
   pub within : inRange ≡ true

@@ -6,7 +6,7 @@ use Prim.Native.Nat.{ℕ, _+_, _≤_}
 use lib.Dec.{leb, ltb, eqb}
 use lib.ListN.{getD}
 use Rattle.rules.specs.Words.{if_then_else_, findTo}
-use Rattle.rules.specs.Refusals.{Outcome, accepted, refused, refuse}
+use Rattle.rules.specs.Refusals.{Outcome, accepted, refused, refuse, andThen}
 use Rattle.rules.specs.Units.{levelled}
 use Rattle.rules.specs.Record.{deliveryAt}
 use Rattle.rules.specs.declared.Plant.{Plant}
@@ -62,22 +62,25 @@ abbrev pub isFound : Spot → Bool
 isFound Nowhere = false
 isFound (At i) = true
 
+-- 3 to 5, of a line whose class has n entries
+unfoldable pub labelTried : ℕ → Bool → ℕ → Key → List ℕ → List ℕ → Outcome (Unit {0})
+labelTried line inRange n key lo hi =
+    refuse (not inRange) (Range line)
+    (refuse (leb 32 n) (Full line)
+    (refuse (isFound (keyFound lo hi n key)) (Used line)
+    (accepted tt)))
+
 unfoldable pub sourceTried : Counts → Bool → Plant → Key → List ℕ → List ℕ → Outcome (Unit {0})
 sourceTried n inRange plant key lo hi =
     refuse (not (eqb (n .deliveries + n .directs) 0)) (Form (nextLine n))
-    (refuse (not inRange) (Range (nextLine n))
-    (refuse (leb 32 (n .sources)) (Full (nextLine n))
-    (refuse (isFound (keyFound lo hi (n .sources) key)) (Used (nextLine n))
-    (refuse (not (levelled plant)) (Levels (nextLine n))
-    (accepted tt)))))
+    (andThen (labelTried (nextLine n) inRange (n .sources) key lo hi) λ u.
+    refuse (not (levelled plant)) (Levels (nextLine n))
+    (accepted tt))
 
 unfoldable pub deliveryTried : Counts → Bool → Key → List ℕ → List ℕ → Outcome (Unit {0})
 deliveryTried n inRange key lo hi =
     refuse (not (eqb (n .directs) 0)) (Form (nextLine n))
-    (refuse (not inRange) (Range (nextLine n))
-    (refuse (leb 32 (n .deliveries)) (Full (nextLine n))
-    (refuse (isFound (keyFound lo hi (n .deliveries) key)) (Used (nextLine n))
-    (accepted tt))))
+    (labelTried (nextLine n) inRange (n .deliveries) key lo hi)
 
 -- D lines.
 

@@ -2,6 +2,7 @@
 --     source-tried, delivery-tried, direct-tried     the reader takes a line just where the tables let it through
 use mathlib.Core.Path.{_≡_, refl, ap, sym, _∙_}
 use mathlib.Core.Bool.{Bool, true, false, not, _&&_}
+use mathlib.Core.List.{List}
 use mathlib.Core.Option.{Option, none, some}
 use Prim.Native.Nat.{ℕ, _+_, _<_}
 use native.Mathlib.Omega.{arith}
@@ -22,15 +23,16 @@ use Rattle.rules.specs.declared.Delivery.{Delivery}
 use Rattle.rules.specs.declared.Direct.{Direct}
 use Rattle.rules.specs.declared.Hour.{Hour}
 use Rattle.rules.specs.declared.Refusal.{Refusal}
-use Rattle.rules.specs.declared.Refusal.the-variants.{Range, Names, OtherBasis, Percents}
+use Rattle.rules.specs.declared.Refusal.the-variants.{Range, Full, Used, Names, OtherBasis, Percents}
 use Rattle.laws.specs.Choices.{false-not-true}
 use Rattle.laws.specs.Lists.{findTo-passes}
-use Rattle.hour.specs.Keys.{keyOf, spotOf, keyTo}
+use Rattle.hour.specs.Keys.{keyOf, spotOf, keyTo, keyFound}
 use Rattle.hour.specs.Tried as tried
-use Rattle.hour.specs.Tried.{countsOf, sourceTried, deliveryTried, Tables, belowMost, codeLeaves, onSpot, onPair, directTried}
+use Rattle.hour.specs.Tried.{countsOf, isFound, labelTried, sourceTried, deliveryTried, Tables, belowMost, codeLeaves, onSpot, onPair, directTried}
 use Rattle.hour.specs.Finds.{kept}
 use Rattle.hour.specs.KeyTells.{Labelled}
 use Rattle.hour.specs.Kept.{keyed-found, keyed-used, keyed-both, High, Kept}
+use Rattle.hour.specs.declared.Key.{Key}
 use Rattle.hour.specs.declared.DirectLine.{DirectLine}
 use Rattle.hour.specs.declared.Pair.{Pair}
 use Rattle.hour.specs.declared.Pair.the-variants.{Both, Missing}
@@ -41,27 +43,37 @@ past : {A B : Type 0} (b c : Bool) (r : Refusal) (x : Outcome B) (y : Outcome A)
 past b true r x y after e f = rw e
 past b false r x y after e f = rw e f
 
+then-then : {A B : Type 0} (o : Outcome (Unit {0})) (y : Outcome A) (after : A → Outcome B) → andThen (andThen o (λ u. y)) after ≡ andThen o (λ u. andThen y after)
+then-then (accepted u) y after = refl
+then-then (refused r) y after = refl
+
+-- 3 to 5
+label-past : {B : Type 0} (line : ℕ) (inRange : Bool) (n : ℕ) (key : Key) (lo hi : List ℕ) (used : Bool) (x : Outcome B) → used ≡ isFound (keyFound lo hi n key)
+    → refuse (not inRange) (Range line) (refuse (leb 32 n) (Full line) (refuse used (Used line) x)) ≡ andThen (labelTried line inRange n key lo hi) (λ u. x)
+unfolding tried.labelTried
+label-past line inRange n key lo hi used x e =
+    past (not inRange) _ _ _ _ _ refl (past (leb 32 n) _ _ _ _ _ refl (past used _ _ _ (accepted tt) (λ u. x) e refl))
+
 module _ (h : Hour) (t : Tables) (k : Kept h t) where
   -- Source and T lines.
 
   pub source-tried : (inRange : Bool) (x : Source) (plant : Plant) → Labelled (x .label) → (inRange ≡ true → plant ≡ x .plant)
       → sourceTaken h inRange x ≡ andThen (sourceTried (countsOf h) inRange plant (keyOf (x .label)) (t .slo) (t .shi)) (λ u. accepted (withSource h x))
-  unfolding tried.sourceTried
+  unfolding tried.sourceTried tried.labelTried
   source-tried false x plant p q = past (not (eqb (h .ndeliveries + h .ndirects) 0)) _ _ _ (refused (Range (lineNumber h))) _ refl refl
   source-tried true x plant p q =
       past (not (eqb (h .ndeliveries + h .ndirects) 0)) _ _ _ _ _ refl
-      (past (leb 32 (h .nsources)) _ _ _ _ _ refl
-      (past _ _ _ _ _ _ (keyed-used _ _ (t .slo) (t .shi) (k .sources) (x .label) p)
-      (past (not (levelled (x .plant))) (not (levelled plant)) _ _ _ _ (ap (λ (p : Plant). not (levelled p)) (sym (q refl))) refl)))
+      (label-past (lineNumber h) true (h .nsources) (keyOf (x .label)) (t .slo) (t .shi) _ _ (keyed-used _ _ (t .slo) (t .shi) (k .sources) (x .label) p)
+      ∙ ap (λ (y : Outcome Hour). andThen (labelTried (lineNumber h) true (h .nsources) (keyOf (x .label)) (t .slo) (t .shi)) (λ u. y))
+      (past (not (levelled (x .plant))) (not (levelled plant)) _ _ (accepted tt) (λ u. accepted (withSource h x)) (ap (λ (p : Plant). not (levelled p)) (sym (q refl))) refl)
+      ∙ sym (then-then (labelTried (lineNumber h) true (h .nsources) (keyOf (x .label)) (t .slo) (t .shi)) _ (λ u. accepted (withSource h x))))
 
   pub delivery-tried : (inRange : Bool) (x : Delivery) → Labelled (x .label)
       → deliveryTaken h inRange x ≡ andThen (deliveryTried (countsOf h) inRange (keyOf (x .label)) (t .tlo) (t .thi)) (λ u. accepted (withDelivery h x))
   unfolding tried.deliveryTried
   delivery-tried inRange x p =
       past (not (eqb (h .ndirects) 0)) _ _ _ _ _ refl
-      (past (not inRange) _ _ _ _ _ refl
-      (past (leb 32 (h .ndeliveries)) _ _ _ _ _ refl
-      (past _ _ _ _ _ _ (keyed-used _ _ (t .tlo) (t .thi) (k .deliveries) (x .label) p) refl)))
+      (label-past (lineNumber h) inRange (h .ndeliveries) (keyOf (x .label)) (t .tlo) (t .thi) _ _ (keyed-used _ _ (t .tlo) (t .thi) (k .deliveries) (x .label) p))
 
   -- D lines.
 

@@ -1,11 +1,11 @@
 // Document 01's rules 2 to 9 tried in their order on one more line of a growing hour, and 10 and 11 at its end.
-// Contracts cite rules' Reading, and of this crate Keys (labels as numbers) and Tried (2 to 9 on tables kept beside the hour).
+// Contracts cite rules' Reading, and of this crate Keys (labels as numbers) and Tried (2 to 9 on tables kept beside the hour). Internal: the deck's crates and the test of 15 call it.
 ghost use mathlib.Core.Path.{_≡_};
 ghost use Prim.Native.Nat.{_+_, _≤_, _<_};
 ghost use Rattle.rules.specs.Units.{generation, ordered, levelled};
 ghost use Rattle.rules.specs.Reading.{generated, delivered, finished};
 ghost use Rattle.hour.specs.Keys.{halfOf, keyOf, sameKey, keyFound};
-ghost use Rattle.hour.specs.Tried.{verdictOf, entryOf, countsOf, Few, nextLine, sourceTried, deliveryTried, unitHigh, basisCode, codeLeaves, belowMost, pairFound, directTried, placedIs, firstPlaced};
+ghost use Rattle.hour.specs.Tried.{verdictOf, entryOf, countsOf, Few, nextLine, labelTried, sourceTried, deliveryTried, unitHigh, basisCode, codeLeaves, belowMost, pairFound, directTried, placedIs, firstPlaced};
 use rules::Basis;
 use rules::Delivery;
 use rules::Direct;
@@ -158,6 +158,30 @@ pub fn next_line(n: Counts) -> usize
     n.sources + n.deliveries + n.directs + 2
 }
 
+// 3 to 5, of a line whose class has n entries.
+fn take_label(
+    line: usize,
+    ranged: bool,
+    n: usize,
+    key: Key,
+    lo: &[u64; 32],
+    hi: &[u64; 32],
+) -> Verdict
+    requires { ⌜ n ≤ 32 ⌝ }
+    ensures { λ r. ⌜ r ≡ verdictOf (labelTried line ranged n key (now (lo .entry)) (now (hi .entry))) ⌝ }
+{
+    if !ranged {
+        return Verdict::Refused(Refusal::Range(line));
+    }
+    if 32 <= n {
+        return Verdict::Refused(Refusal::Full(line));
+    }
+    if let Spot::At(i) = find_key(lo, hi, n, key) {
+        return Verdict::Refused(Refusal::Used(line));
+    }
+    Verdict::Accepted
+}
+
 // A source line: 2 to 6.
 pub fn take_source(
     n: Counts,
@@ -174,14 +198,8 @@ pub fn take_source(
     if n.deliveries + n.directs != 0 {
         return Verdict::Refused(Refusal::Form(line));
     }
-    if !ranged {
-        return Verdict::Refused(Refusal::Range(line));
-    }
-    if 32 <= n.sources {
-        return Verdict::Refused(Refusal::Full(line));
-    }
-    if let Spot::At(i) = find_key(lo, hi, n.sources, key) {
-        return Verdict::Refused(Refusal::Used(line));
+    if let Verdict::Refused(r) = take_label(line, ranged, n.sources, key, lo, hi) {
+        return Verdict::Refused(r);
     }
     if !in_levels(plant) {
         return Verdict::Refused(Refusal::Levels(line));
@@ -198,16 +216,7 @@ pub fn take_delivery(n: Counts, ranged: bool, key: Key, lo: &[u64; 32], hi: &[u6
     if n.directs != 0 {
         return Verdict::Refused(Refusal::Form(line));
     }
-    if !ranged {
-        return Verdict::Refused(Refusal::Range(line));
-    }
-    if 32 <= n.deliveries {
-        return Verdict::Refused(Refusal::Full(line));
-    }
-    if let Spot::At(i) = find_key(lo, hi, n.deliveries, key) {
-        return Verdict::Refused(Refusal::Used(line));
-    }
-    Verdict::Accepted
+    take_label(line, ranged, n.deliveries, key, lo, hi)
 }
 
 // A unit's high; 0 for a source that is no unit.

@@ -10,14 +10,17 @@ use lib.ListN.{length, set, length-set}
 use lib.Seq.{getD-set-same, getD-set-other}
 use Rattle.dispatch.specs.LinesOfPrices.{Numbers, Lined, linePrice, unit-price, purchase-price, fixed-price, lined-as}
 use Rattle.laws.specs.Sums.{below-suc}
-use Rattle.merit.specs.LevelNeverBelowB.{Sound, stateAt, Took, moved-sound}
-use Rattle.merit.specs.NumbersStaySmall.{PlantSmall, Small, CurveSmall, took-small, shift-small}
+use Rattle.merit.specs.ChangedFromB.{Starts}
+use Rattle.merit.specs.LevelNeverBelowB.{Sound, opened-sound, stateAt, Took, moved-sound}
+use Rattle.merit.specs.NumbersStaySmall.{PlantSmall, Small, CurveSmall, opened-small, took-small, shift-small}
 use Rattle.merit.specs.PricesRise.{price}
-use Rattle.merit.specs.RemainderMoves.{Shift, down, up, shift-moved, room-open}
-use Rattle.rules.specs.Group.{noRunning, level, Rung, room, headroom, headroomOf, lowered, raised}
-use Rattle.rules.specs.Units.{levelled}
+use Rattle.merit.specs.RemainderMoves.{Shift, down, up, shift-moved, room-open, remainder-moves}
+use Rattle.rules.specs.Group.{noRunning, opened, remainder, level, Rung, room, headroom, headroomOf, lowered, raised}
+use Rattle.rules.specs.Refusals.{accepted}
+use Rattle.rules.specs.Units.{levelled, generation}
 use Rattle.rules.specs.Words.{if_then_else_}
 use Rattle.rules.specs.declared.HeatCurve.{HeatCurve}
+use Rattle.rules.specs.declared.InternalSequence.{InternalSequence}
 use Rattle.rules.specs.declared.Plant.{Plant}
 use Rattle.rules.specs.declared.Plant.the-variants.{Unit as U, Purchase as P, Fixed as F}
 use Rattle.rules.specs.declared.Running.{Running}
@@ -179,3 +182,17 @@ shift-ready {s} r (up t h) = record {
   levels = r .levels;
   high = let e : s .v + t + s .d ≡ level s + t = omega arith in rw e (raised-within s t r h .1);
 }
+
+-- a source at the hour's start
+pub opened-ready : (p : Plant) → Starts p → PlantSmall p → levelled p ≡ true → Ready (opened p)
+opened-ready p z l e = record { sound = opened-sound p z; small = opened-small p l; levels = e; high = unit-less p _ (generation p) (omega arith) (go p l) }
+  where
+    go : (p : Plant) → PlantSmall p → unitLevel p (generation p) ≤ 2000
+    go (U u) l = l .g
+    go (P g rate) l = omega arith
+    go (F g) l = omega arith
+
+-- all sources after a remainder
+pub remainder-ready : (number : InternalSequence) (n total took : ℕ) (ss us : List Running) → AllReady ss n → remainder number n total took ss ≡ accepted us → AllReady us n
+remainder-ready number n total took ss us r e =
+    record { n-small = r .n-small; ready = λ i. shift-ready (r .ready i) (remainder-moves number n total took ss us e .each i) }

@@ -1,18 +1,16 @@
-use Rattle.entries.specs.Loops.{allTo-on, allTo-fails, allTo-end}
-use Rattle.entries.specs.Shape.{paddedTo, sourcesBlank, deliveriesBlank, directsBlank}
-use Rattle.entries.specs.Shape as shape
-use Rattle.hour.specs.Finds.{allTo-zero}
-use borrow.Author.Tests.{not-true, not-false, ne-eqb, eq-eqb, le-leb, lt-leb}
+-- The first i D entries past the count are blank; an array has 32.
+use mathlib.Core.Path.{_≡_, sym, _∙_}
+use mathlib.Core.Bool.{true}
+use Prim.Native.Nat.{_-_, _≤_}
 use native.Mathlib.Omega.{arith}
-use mathlib.Core.Path.{_≡_, refl, sym, ap, _∙_}
-use mathlib.Core.Bool.{true, not}
-use Prim.Native.Nat.{ℕ, _+_, _-_, _≤_, _<_}
+use lib.ListN.{length}
+use borrow.Author.Tests.{not-true, not-false, eq-eqb}
 use borrow.Author.Needs.{needs}
+use Rattle.hour.specs.Finds.{allTo-zero}
+use Rattle.entries.specs.Loops.{length-mapped, allTo-on, allTo-fails, allTo-end}
+use Rattle.entries.specs.Shape.{directsBlank}
 use Rattle.entries.proofs.directs_blank.Statement.{statement}
 use Rattle.entries.proofs.directs_blank.Tie as tie
-use Rattle.entries.proofs.directs_blank.Reads as reads
-use Rattle.entries.proofs.directs_blank.Lts as lts
-use Rattle.entries.proofs.is_blank_direct.Reads as is-blank-direct-reads
 
 abbrev Inv-loop : tie.InvT-loop
 Inv-loop h n i₀ i = (i ≤ 32 - n) × (directsBlank h i ≡ true)
@@ -20,49 +18,40 @@ Inv-loop h n i₀ i = (i ≤ 32 - n) × (directsBlank h i ≡ true)
 abbrev μ-loop : tie.MeasureT-loop
 μ-loop h n i₀ i = 32 - n - i
 
--- src/lib.rt:173:5
 loop-holds : tie.Need-loop-holds Inv-loop μ-loop
 loop-holds c = (search needs, allTo-zero _)
 
--- src/lib.rt:173:15
 sub-loop : tie.Need-sub-loop Inv-loop μ-loop
 sub-loop c = search needs
 
--- src/lib.rt:174:27
 add-x : tie.Need-add-x Inv-loop μ-loop
 add-x c = search needs
 
--- src/lib.rt:174:17
 mul-x : tie.Need-mul-x Inv-loop μ-loop
 mul-x c = search needs
 
--- src/lib.rt:174:17
 element-copy-out-x : tie.Need-element-copy-out-x Inv-loop μ-loop
 element-copy-out-x c = search needs
 
--- src/lib.rt:175:13
 is-blank-direct-requires : tie.Need-is-blank-direct-requires Inv-loop μ-loop
 is-blank-direct-requires c κs = search needs
 
--- src/lib.rt:176:13
 returns : tie.Need-returns Inv-loop μ-loop
-returns c = sym (allTo-fails _ _ (c .before .before .before .before .loop .i) (omega arith) (sym (c .before .is-blank-direct .ensures) ∙ not-true _ (c .if1 .taken)))
+returns c = let size : length (c .before .before .before .before .before .args .t1 .directs) ≡ 32 = search (needs, length-mapped) in
+    rw (eq-eqb _ _ size) (sym (allTo-fails _ _ (c .before .before .before .before .loop .i) (omega arith) (sym (c .before .is-blank-direct .ensures) ∙ not-true _ (c .if1 .taken))))
 
--- src/lib.rt:178:9
 add-i : tie.Need-add-i Inv-loop μ-loop
 add-i c = search needs
 
--- src/lib.rt:173:5
 loop-less : tie.Need-loop-less Inv-loop μ-loop
 loop-less c = search needs
 
--- src/lib.rt:173:5
 loop-again : tie.Need-loop-again Inv-loop μ-loop
 loop-again c = (search needs, allTo-on _ _ (c .before .before .before .before .loop .inv .1) (sym (c .before .is-blank-direct .ensures) ∙ not-false _ (c .if1 .left)))
 
--- src/lib.rt:167:1
 returns-2 : tie.Need-returns-2 Inv-loop μ-loop
-returns-2 c = sym (allTo-end _ _ (c .before .loop .i) (omega arith) (omega arith) (c .before .loop .inv .1))
+returns-2 c = let size : length (c .before .before .args .t1 .directs) ≡ 32 = search (needs, length-mapped) in
+    rw (eq-eqb _ _ size) (sym (allTo-end _ _ (c .before .loop .i) (omega arith) (omega arith) (c .before .loop .inv .1)))
 
 pub directs-blank-spec : {M : Type 1} → statement M
 directs-blank-spec =

@@ -1,39 +1,26 @@
-use Rattle.entries.specs.Loops.{allTo-on, allTo-fails, allTo-end}
-use Rattle.entries.specs.Shape.{paddedTo, sourcesBlank, deliveriesBlank, directsBlank}
-use Rattle.entries.specs.Shape as shape
-use Rattle.hour.specs.Finds.{allTo-zero}
-use borrow.Author.Tests.{not-true, not-false, ne-eqb, eq-eqb, le-leb, lt-leb}
-use native.Mathlib.Omega.{arith}
-use mathlib.Core.Path.{_≡_, refl, sym, ap, _∙_}
-use mathlib.Core.Bool.{true, not}
-use Prim.Native.Nat.{ℕ, _+_, _-_, _≤_, _<_}
+-- The basis, then each number in turn.
+use mathlib.Core.Path.{sym, _∙_}
+use borrow.Author.Tests.{not-true, not-false, ne-eqb, eq-eqb}
 use borrow.Author.Needs.{needs}
+use Rattle.entries.specs.Shape as shape
 use Rattle.entries.proofs.is_blank_direct.Statement.{statement}
 use Rattle.entries.proofs.is_blank_direct.Tie as tie
-use Rattle.entries.proofs.is_blank_direct.Reads as reads
-use Rattle.entries.proofs.is_blank_direct.Lts as lts
-use Rattle.entries.proofs.is_blank_basis.Reads as is-blank-basis-reads
 
--- src/lib.rt:123:9
 is-blank-basis-requires : tie.Need-is-blank-basis-requires
 is-blank-basis-requires c κs = search needs
 
--- src/lib.rt:124:9
 returns : tie.Need-returns
 unfolding shape.directBlank
 returns c = rw (sym (c .before .is-blank-basis .ensures) ∙ not-true _ (c .if1 .taken))
 
--- src/lib.rt:127:9
 returns-2 : tie.Need-returns-2
 unfolding shape.directBlank
 returns-2 c = rw (sym (c .before .before .before .is-blank-basis .ensures) ∙ not-false _ (c .before .before .if1 .left), ne-eqb _ _ (c .if2 .taken))
 
--- src/lib.rt:130:9
 returns-3 : tie.Need-returns-3
 unfolding shape.directBlank
 returns-3 c = rw (sym (c .before .before .before .before .before .is-blank-basis .ensures) ∙ not-false _ (c .before .before .before .before .if1 .left), eq-eqb _ _ (c .before .before .if2 .left), ne-eqb _ _ (c .if3 .taken))
 
--- src/lib.rt:119:1
 returns-4 : tie.Need-returns-4
 unfolding shape.directBlank
 returns-4 c = rw (sym (c .before .before .before .before .before .before .is-blank-basis .ensures) ∙ not-false _ (c .before .before .before .before .before .if1 .left), eq-eqb _ _ (c .before .before .before .if2 .left), eq-eqb _ _ (c .before .if3 .left))

@@ -1,30 +1,23 @@
+-- Each kind of source by its own case.
 use borrow.Author.Needs.{needs}
 use Rattle.entries.proofs.is_blank_plant.Statement.{statement}
 use Rattle.entries.proofs.is_blank_plant.Tie as tie
-use Rattle.entries.proofs.is_blank_plant.Reads as reads
-use Rattle.entries.proofs.is_blank_plant.Lts as lts
 
--- src/lib.rt:72:21
 enum-known-p : tie.Need-enum-known-p
 enum-known-p c = search needs
 
--- src/lib.rt:73:27
 enum-known-p-2 : tie.Need-enum-known-p-2
 enum-known-p-2 c = search needs
 
--- src/lib.rt:74:24
 enum-known-p-3 : tie.Need-enum-known-p-3
 enum-known-p-3 c = search needs
 
--- src/lib.rt:68:1
 returns : tie.Need-returns
 returns c = search needs
 
--- src/lib.rt:68:1
 returns-2 : tie.Need-returns-2
 returns-2 c = search needs
 
--- src/lib.rt:68:1
 returns-3 : tie.Need-returns-3
 returns-3 c = rw (c .before .p3 .given .1)
 

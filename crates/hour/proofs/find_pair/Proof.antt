@@ -3,7 +3,7 @@ use native.Mathlib.Omega.{arith}
 use borrow.Author.Tests.{ne-eqb, eq-eqb}
 use borrow.Author.Needs.{needs}
 use Rattle.hour.specs.Tried as tried
-use Rattle.hour.specs.Finds.{spot-below}
+use Rattle.hour.specs.Answers.{spot-below}
 use Rattle.hour.proofs.find_pair.Statement.{statement}
 use Rattle.hour.proofs.find_pair.Tie as tie
 

@@ -3,7 +3,7 @@ use native.Mathlib.Omega.{arith}
 use borrow.Author.Needs.{needs}
 use Rattle.rules.specs.Reading.{unplaced, placer}
 use Rattle.rules.specs.Reading as reading
-use Rattle.hour.specs.Finds.{spot-found, spot-none, spot-below, sum-above, sum-within}
+use Rattle.hour.specs.Answers.{spot-found, spot-none, spot-below, sum-above, sum-within}
 use Rattle.hour.proofs.finish.Statement.{statement}
 use Rattle.hour.proofs.finish.Tie as tie
 

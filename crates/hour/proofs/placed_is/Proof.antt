@@ -1,5 +1,5 @@
 -- A sequence of 0, and any other, whichever is asked for.
-use Rattle.hour.specs.Finds.{placed-zero, placed-other}
+use Rattle.hour.specs.Answers.{placed-zero, placed-other}
 use Rattle.hour.proofs.placed_is.Statement.{statement}
 use Rattle.hour.proofs.placed_is.Tie as tie
 

@@ -5,7 +5,7 @@ use borrow.Author.Tests.{le-leb, lt-leb, not-true, not-false}
 use borrow.Author.Needs.{needs}
 use Rattle.hour.specs.Tried as tried
 use Rattle.hour.specs.Pairs.{pair-within}
-use Rattle.hour.specs.Finds.{sum-above, sum-within}
+use Rattle.hour.specs.Answers.{sum-above, sum-within}
 use Rattle.hour.proofs.take_direct.Statement.{statement}
 use Rattle.hour.proofs.take_direct.Tie as tie
 
