@@ -1,7 +1,9 @@
 // Document 01's rules 2 to 9 tried in their order on one more line of a growing hour, and 10 and 11 at its end.
 // Contracts cite rules' Reading, and of this crate Keys (labels as numbers) and Tried (2 to 9 on tables kept beside the hour). Internal: the deck's crates and the test of 15 call it.
 ghost use mathlib.Core.Path.{_≡_};
+ghost use mathlib.Core.Bool.{_&&_};
 ghost use Prim.Native.Nat.{_+_, _≤_, _<_};
+ghost use lib.Dec.{eqb};
 ghost use Rattle.rules.specs.Units.{generation, ordered, levelled};
 ghost use Rattle.rules.specs.Reading.{generated, delivered, finished};
 ghost use Rattle.hour.specs.Keys.{halfOf, keyOf, sameKey, keyFound};
@@ -59,10 +61,10 @@ pub struct DirectLine {
     pub delivery: Key,
 }
 
-fn byte(x: u8) -> u64
-    ensures { λ r. ⌜ (r ≡ x) × (r < 256) ⌝ }
+fn byte(b: u8) -> u64
+    ensures { λ r. ⌜ (r ≡ b) × (r < 256) ⌝ }
 {
-    x as u64
+    b as u64
 }
 
 fn wide(x: u32) -> u64
@@ -94,13 +96,19 @@ pub fn key_of(l: Label) -> Key
     Key { lo, hi }
 }
 
+fn same_half(a: u64, b: u64) -> bool
+    ensures { λ r. ⌜ r ≡ eqb a b ⌝ }
+{
+    a == b
+}
+
 fn same_key(a: Key, b: Key) -> bool
     ensures { λ r. ⌜ r ≡ sameKey a b ⌝ }
 {
-    if a.lo != b.lo {
+    if !same_half(a.lo, b.lo) {
         return false;
     }
-    a.hi == b.hi
+    same_half(a.hi, b.hi)
 }
 
 // The first of n places of the tables where a key stands.
@@ -259,6 +267,16 @@ fn code_leaves(code: u64, b: Basis) -> bool
     code == basis_code(b)
 }
 
+// The basis of a unit's earlier D lines, or none yet, and a number below its high (8).
+fn basis_allowed(b: Basis, code: u64, most: u32) -> bool
+    ensures { λ r. ⌜ r ≡ (codeLeaves code b && belowMost b most) ⌝ }
+{
+    if !code_leaves(code, b) {
+        return false;
+    }
+    below_most(b, most)
+}
+
 // The unit and the delivery that a D line names (7).
 fn find_pair(
     n: Counts,
@@ -311,10 +329,7 @@ pub fn take_direct(
         return Entry::Unnamed(Refusal::Names(line));
     };
     let b = x.basis;
-    if !code_leaves(based[i], b) {
-        return Entry::Unnamed(Refusal::OtherBasis(line));
-    }
-    if !below_most(b, high[i]) {
+    if !basis_allowed(b, based[i], high[i]) {
         return Entry::Unnamed(Refusal::OtherBasis(line));
     }
     if 100 < wide(percents[i]) + wide(x.percent) {

@@ -105,12 +105,15 @@ abbrev pub deliveryOwnAt : Hour → ℕ → Bool
 deliveryOwnAt h j = deliveryOwn (h .nsources) j (deliveryAt h j) (deliveryKey h j) (tlosTo h j) (thisTo h j)
 
 -- the line of a D entry, by the keys of the entries that it names
-abbrev pub ownLine : Direct → Tables → DirectLine
-ownLine x t = record { basis = x .basis; percent = x .percent; unit = keyAt (t .slo) (t .shi) (x .source); delivery = keyAt (t .tlo) (t .thi) (x .delivery) }
+abbrev pub ownLine : Direct → List ℕ → List ℕ → List ℕ → List ℕ → DirectLine
+ownLine x slo shi tlo thi = record { basis = x .basis; percent = x .percent; unit = keyAt slo shi (x .source); delivery = keyAt tlo thi (x .delivery) }
+
+abbrev pub ownLineIn : Direct → Tables → DirectLine
+ownLineIn x t = ownLine x (t .slo) (t .shi) (t .tlo) (t .thi)
 
 unfoldable pub directOwn : Counts → Direct → Tables → Bool
 directOwn n x t =
-    ltb (x .source) (n .sources) && (ltb (x .delivery) (n .deliveries) && isNamed (entryOf (directTried n (directInside (x .basis) (x .percent)) (ownLine x t) t)))
+    ltb (x .source) (n .sources) && (ltb (x .delivery) (n .deliveries) && isNamed (entryOf (directTried n (directInside (x .basis) (x .percent)) (ownLineIn x t) t)))
 
 -- a D entry after k others, with the other classes' tables at hand
 abbrev pub directOwnIn : Hour → List ℕ → List ℕ → List ℕ → List ℕ → List ℕ → ℕ → Bool

@@ -37,7 +37,7 @@ use Rattle.hour.specs.TablesKept.{kept-started, kept-source, kept-delivery, kep
 use Rattle.entries.specs.Shape.{ownLabel}
 use Rattle.entries.specs.ShapeTells.{own-labelled, labelled-own}
 use Rattle.record.specs.Own as own
-use Rattle.record.specs.Own.{accepts, fillTo, tablesTo, counts, slosTo, shisTo, tlosTo, thisTo, sourceOwnAt, deliveryOwnAt, ownLine, directOwn, directOwnAt}
+use Rattle.record.specs.Own.{accepts, fillTo, tablesTo, counts, slosTo, shisTo, tlosTo, thisTo, sourceOwnAt, deliveryOwnAt, ownLineIn, directOwn, directOwnAt}
 use Rattle.record.specs.Fill.{fillTo-made}
 use Rattle.record.specs.Steps.{direct-own}
 use Rattle.record.specs.Turns.{Extends, fed-extends, Step}
@@ -223,7 +223,7 @@ module _ (h : Hour) (d : ℕ) (k : Kept (soFar h (h .nsources) (h .ndeliveries) 
   entry = directAt h d
 
   direct-tried-as : Outcome Direct
-  direct-tried-as = directTried (counts (h .nsources) (h .ndeliveries) d) (directInside (entry .basis) (entry .percent)) (ownLine entry tables) tables
+  direct-tried-as = directTried (counts (h .nsources) (h .ndeliveries) d) (directInside (entry .basis) (entry .percent)) (ownLineIn entry tables) tables
 
   -- the entries that it names stand in the hour so far
   module _ (source : entry .source < h .nsources) (delivery : entry .delivery < h .ndeliveries) where
@@ -246,7 +246,7 @@ module _ (h : Hour) (d : ℕ) (k : Kept (soFar h (h .nsources) (h .ndeliveries) 
         ∙ ap (λ (l : Label). directTaken hour (directInside (entry .basis) (entry .percent)) (entry .basis) (entry .percent) l (labelOf (chars (deliveryAt h (entry .delivery) .label)))) (unit-labelled .padded)
         ∙ ap (λ (l : Label). directTaken hour (directInside (entry .basis) (entry .percent)) (entry .basis) (entry .percent) (sourceAt h (entry .source) .label) l) (delivery-labelled-at .padded)
         ∙ direct-tried hour tables k (directInside (entry .basis) (entry .percent)) (entry .basis) (entry .percent) (sourceAt h (entry .source) .label) (deliveryAt h (entry .delivery) .label)
-        (ownLine entry tables) unit-labelled delivery-labelled-at
+        (ownLineIn entry tables) unit-labelled delivery-labelled-at
         (k .sources .key (entry .source) source ∙ ap (λ (x : Source). keyOf (x .label)) unit-same)
         (k .deliveries .key (entry .delivery) delivery ∙ ap (λ (x : Delivery). keyOf (x .label)) delivery-same)
         (λ e. (refl, refl))
@@ -255,7 +255,7 @@ module _ (h : Hour) (d : ℕ) (k : Kept (soFar h (h .nsources) (h .ndeliveries) 
     direct-self : (y : Direct) → direct-tried-as ≡ accepted y → y ≡ entry
     unfolding direct-tried-as
     direct-self y e =
-        let s = direct-let (counts (h .nsources) (h .ndeliveries) d) (directInside (entry .basis) (entry .percent)) (ownLine entry tables) tables y e in
+        let s = direct-let (counts (h .nsources) (h .ndeliveries) d) (directInside (entry .basis) (entry .percent)) (ownLineIn entry tables) tables y e in
         same-direct entry y (s .basis) (s .percent)
         (k .sources .apart (y .source) (entry .source) (s .source) source (s .unit-key))
         (k .deliveries .apart (y .delivery) (entry .delivery) (s .delivery) delivery (s .delivery-key))
@@ -281,5 +281,5 @@ module _ (h : Hour) (d : ℕ) (k : Kept (soFar h (h .nsources) (h .ndeliveries) 
         labels = direct-labelled h entry ∙ rw (unit-labelled (o .source) (o .delivery) .label, delivery-labelled-at (o .source) (o .delivery) .label);
         goes = direct-goes (o .source) (o .delivery) ∙ rw t (ap accepted direct-next);
         kept = subst (λ (m : Hour). Kept m (tablesTo h (h .nsources) (h .ndeliveries) (suc d))) direct-next
-            (kept-direct hour tables k (directInside (entry .basis) (entry .percent)) (ownLine entry tables) entry t);
+            (kept-direct hour tables k (directInside (entry .basis) (entry .percent)) (ownLineIn entry tables) entry t);
       }

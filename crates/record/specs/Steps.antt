@@ -32,7 +32,7 @@ use Rattle.hour.specs.declared.Key.{Key}
 use Rattle.hour.specs.declared.Counts.{Counts}
 use Rattle.entries.specs.Loops.{allTo-fails}
 use Rattle.record.specs.Own as own
-use Rattle.record.specs.Own.{isNamed, slosTo, shisTo, highsTo, tlosTo, thisTo, basedTo, percentsTo, sourceOwn, sourceOwnAt, deliveryOwn, deliveryOwnAt, keptIf, ownLine, directOwn, directOwnIn, noSources, sourcesGiven, noDeliveries, deliveriesGiven, fewEntries}
+use Rattle.record.specs.Own.{isNamed, slosTo, shisTo, highsTo, tlosTo, thisTo, basedTo, percentsTo, sourceOwn, sourceOwnAt, deliveryOwn, deliveryOwnAt, keptIf, ownLineIn, directOwn, directOwnIn, noSources, sourcesGiven, noDeliveries, deliveriesGiven, fewEntries}
 
 -- Sources and deliveries.
 
@@ -75,7 +75,7 @@ pub record DirectOwn (n : Counts) (x : Direct) (t : Tables) : Type 0 where
   pub source : x .source < n .sources
   pub delivery : x .delivery < n .deliveries
   pub entry : Direct
-  pub tried : directTried n (directInside (x .basis) (x .percent)) (ownLine x t) t ≡ accepted entry
+  pub tried : directTried n (directInside (x .basis) (x .percent)) (ownLineIn x t) t ≡ accepted entry
 
 named-entry : (o : Outcome Direct) → isNamed (entryOf o) ≡ true → (y : Direct) × (o ≡ accepted y)
 named-entry (accepted y) e = (y, refl)
@@ -86,7 +86,7 @@ unfolding own.directOwn
 direct-own n x t e =
     let a = both-true (ltb (x .source) (n .sources)) _ e in
     let b = both-true (ltb (x .delivery) (n .deliveries)) _ (a .1) in
-    let c = named-entry (directTried n (directInside (x .basis) (x .percent)) (ownLine x t) t) (b .1) in
+    let c = named-entry (directTried n (directInside (x .basis) (x .percent)) (ownLineIn x t) t) (b .1) in
     record { source = ltb-true (x .source) (n .sources) (a .0); delivery = ltb-true (x .delivery) (n .deliveries) (b .0); entry = c .0; tried = c .1 }
 
 percent-most : (b : Basis) (p : ℕ) → directInside b p ≡ true → p ≤ 100
@@ -96,7 +96,7 @@ percent-most b p e = inside-from percent p (line-ranged (line D (b, (p, ([], ([]
 pub own-percent : (n : Counts) (x : Direct) (t : Tables) → directOwn n x t ≡ true → x .percent ≤ 100
 own-percent n x t e =
     let d = direct-own n x t e in
-    percent-most (x .basis) (x .percent) (direct-let n (directInside (x .basis) (x .percent)) (ownLine x t) t (d .entry) (d .tried) .within)
+    percent-most (x .basis) (x .percent) (direct-let n (directInside (x .basis) (x .percent)) (ownLineIn x t) t (d .entry) (d .tried) .within)
 
 module _ (h : Hour) where
   pub basedTo-more : (bs : List ℕ) (k code : ℕ) → bs ≡ basedTo h k → code ≡ basisCode (directAt h k .basis) → set bs (directAt h k .source) code ≡ basedTo h (k + 1)

@@ -1,11 +1,11 @@
 // The test of 15: whether a deck gives an hour record, by the functions that try a deck's lines.
 // The contract of valid cites rules' Writing; the others cite Own, the test entry by entry.
 ghost use mathlib.Core.Path.{_≡_};
-ghost use Prim.Native.Nat.{_≤_};
+ghost use Prim.Native.Nat.{_≤_, _<_};
 ghost use Rattle.rules.specs.Words.{allTo};
 ghost use Rattle.rules.specs.Writing as writing;
 ghost use Rattle.hour.specs.Tried.{Few, countsOf};
-ghost use Rattle.record.specs.Own.{counts, sourceOwn, deliveryOwn, directOwn, directOwnIn, noSources, noDeliveries, sourcesGiven, deliveriesGiven, linesGiven, fewEntries};
+ghost use Rattle.record.specs.Own.{counts, sourceOwn, deliveryOwn, ownLine, directOwn, directOwnIn, noSources, noDeliveries, sourcesGiven, deliveriesGiven, linesGiven, fewEntries};
 use hour::Counts;
 use hour::DirectLine;
 use hour::Entry;
@@ -152,7 +152,36 @@ fn deliveries_given(h: Hour) -> DeliveryTables
     }
 }
 
-// A D entry, by the keys of the entries that it names.
+// The line of a D entry, by the keys of the entries that it names.
+fn own_line(
+    x: Direct,
+    slo: &[u64; 32],
+    shi: &[u64; 32],
+    tlo: &[u64; 32],
+    thi: &[u64; 32],
+) -> DirectLine
+    requires { ⌜ (x .source < 32) × (x .delivery < 32) ⌝ }
+    ensures { λ r. ⌜ r ≡ ownLine x (now (slo .entry)) (now (shi .entry)) (now (tlo .entry)) (now (thi .entry)) ⌝ }
+{
+    let s = x.source;
+    let d = x.delivery;
+    let unit = Key {
+        lo: slo[s],
+        hi: shi[s],
+    };
+    let delivery = Key {
+        lo: tlo[d],
+        hi: thi[d],
+    };
+    let basis = x.basis;
+    DirectLine {
+        basis,
+        percent: x.percent,
+        unit,
+        delivery,
+    }
+}
+
 fn direct_given(
     n: Counts,
     x: Direct,
@@ -167,29 +196,14 @@ fn direct_given(
     requires { ⌜ Few n ⌝ }
     ensures { λ r. ⌜ r ≡ directOwn n x (record { slo = now (slo .entry); shi = now (shi .entry); tlo = now (tlo .entry); thi = now (thi .entry); high = now (high .entry); based = now (based .entry); percents = now (percents .entry) }) ⌝ }
 {
-    let s = x.source;
-    if n.sources <= s {
+    if n.sources <= x.source {
         return false;
     }
-    let d = x.delivery;
-    if n.deliveries <= d {
+    if n.deliveries <= x.delivery {
         return false;
     }
+    let line = own_line(x, slo, shi, tlo, thi);
     let b = x.basis;
-    let unit = Key {
-        lo: slo[s],
-        hi: shi[s],
-    };
-    let delivery = Key {
-        lo: tlo[d],
-        hi: thi[d],
-    };
-    let line = DirectLine {
-        basis: b,
-        percent: x.percent,
-        unit,
-        delivery,
-    };
     let ranged = ranges::direct_in_range(b, x.percent);
     let Entry::Named(y) = hour::take_direct(
         n,

@@ -19,7 +19,7 @@ loop-holds : tie.Need-loop-holds Inv-loop μ-loop
 loop-holds c = (search needs, search needs, packTo-zero _)
 
 mul-half : tie.Need-mul-half Inv-loop μ-loop
-mul-half c = omega (arith, pack-fits _ _ (c .before .loop .inv .1) (c .loop-test .taken))
+mul-half c = omega (arith, pack-fits _ _ (c .before .loop .inv .1) (omega arith))
 
 add-byte : tie.Need-add-byte Inv-loop μ-loop
 add-byte c = search needs
@@ -31,7 +31,7 @@ byte-requires : tie.Need-byte-requires Inv-loop μ-loop
 byte-requires c κs = search needs
 
 add-half : tie.Need-add-half Inv-loop μ-loop
-add-half c = omega (arith, pack-fits _ _ (c .before .before .loop .inv .1) (c .before .loop-test .taken))
+add-half c = omega (arith, pack-fits _ _ (c .before .before .loop .inv .1) (omega arith))
 
 add-i : tie.Need-add-i Inv-loop μ-loop
 add-i c = search needs

@@ -33,37 +33,30 @@ returns-3 : tie.Need-returns-3
 unfolding tried.directTried
 returns-3 c = rw (← (c .before .before .before .before .before .before .next-line .ensures), c .before .before .before .before .before .if1 .left, lt-leb _ _ (c .before .before .before .if2 .left), ← (c .before .before .find-pair .ensures), c .enum-told .given .1)
 
-mul-code-leaves : tie.Need-mul-code-leaves
-mul-code-leaves c = omega (arith, pair-within _ _ _ _ _ _ _ _ _ (sym (c .before .before .before .find-pair .ensures) ∙ c .before .i .given .1) .source, c .before .before .before .before .before .before .before .before .pre .sources)
+mul-basis-allowed : tie.Need-mul-basis-allowed
+mul-basis-allowed c = omega (arith, pair-within _ _ _ _ _ _ _ _ _ (sym (c .before .before .before .find-pair .ensures) ∙ c .before .i .given .1) .source, c .before .before .before .before .before .before .before .before .pre .sources)
 
-element-copy-out-code-leaves : tie.Need-element-copy-out-code-leaves
-element-copy-out-code-leaves c = omega (arith, pair-within _ _ _ _ _ _ _ _ _ (sym (c .before .before .before .find-pair .ensures) ∙ c .before .i .given .1) .source, c .before .before .before .before .before .before .before .before .pre .sources)
+element-copy-out-basis-allowed : tie.Need-element-copy-out-basis-allowed
+element-copy-out-basis-allowed c = omega (arith, pair-within _ _ _ _ _ _ _ _ _ (sym (c .before .before .before .find-pair .ensures) ∙ c .before .i .given .1) .source, c .before .before .before .before .before .before .before .before .pre .sources)
 
-code-leaves-requires : tie.Need-code-leaves-requires
-code-leaves-requires c κs = search needs
+mul-basis-allowed-2 : tie.Need-mul-basis-allowed-2
+mul-basis-allowed-2 c = omega (arith, pair-within _ _ _ _ _ _ _ _ _ (sym (c .before .before .before .before .find-pair .ensures) ∙ c .before .before .i .given .1) .source, c .before .before .before .before .before .before .before .before .before .pre .sources)
+
+element-copy-out-basis-allowed-2 : tie.Need-element-copy-out-basis-allowed-2
+element-copy-out-basis-allowed-2 c = omega (arith, pair-within _ _ _ _ _ _ _ _ _ (sym (c .before .before .before .before .find-pair .ensures) ∙ c .before .before .i .given .1) .source, c .before .before .before .before .before .before .before .before .before .pre .sources)
+
+basis-allowed-requires : tie.Need-basis-allowed-requires
+basis-allowed-requires c κs = search needs
 
 returns-4 : tie.Need-returns-4
 unfolding tried.directTried
-returns-4 c = rw (← (c .before .before .before .before .before .before .before .before .before .before .next-line .ensures), c .before .before .before .before .before .before .before .before .before .if1 .left, lt-leb _ _ (c .before .before .before .before .before .before .before .if2 .left), ← (c .before .before .before .before .before .before .find-pair .ensures), c .before .before .before .before .i .given .1, sym (c .before .code-leaves .ensures) ∙ not-true _ (c .if3 .taken))
-
-mul-below-most : tie.Need-mul-below-most
-mul-below-most c = omega (arith, pair-within _ _ _ _ _ _ _ _ _ (sym (c .before .before .before .before .before .before .find-pair .ensures) ∙ c .before .before .before .before .i .given .1) .source, c .before .before .before .before .before .before .before .before .before .before .before .pre .sources)
-
-element-copy-out-below-most : tie.Need-element-copy-out-below-most
-element-copy-out-below-most c = omega (arith, pair-within _ _ _ _ _ _ _ _ _ (sym (c .before .before .before .before .before .before .find-pair .ensures) ∙ c .before .before .before .before .i .given .1) .source, c .before .before .before .before .before .before .before .before .before .before .before .pre .sources)
-
-below-most-requires : tie.Need-below-most-requires
-below-most-requires c κs = search needs
-
-returns-5 : tie.Need-returns-5
-unfolding tried.directTried
-returns-5 c = rw (← (c .before .before .before .before .before .before .before .before .before .before .before .before .before .next-line .ensures), c .before .before .before .before .before .before .before .before .before .before .before .before .if1 .left, lt-leb _ _ (c .before .before .before .before .before .before .before .before .before .before .if2 .left), ← (c .before .before .before .before .before .before .before .before .before .find-pair .ensures), c .before .before .before .before .before .before .before .i .given .1, sym (c .before .before .before .before .code-leaves .ensures) ∙ not-false _ (c .before .before .before .if3 .left), sym (c .before .below-most .ensures) ∙ not-true _ (c .if4 .taken))
+returns-4 c = rw (← (c .before .before .before .before .before .before .before .before .before .before .before .next-line .ensures), c .before .before .before .before .before .before .before .before .before .before .if1 .left, lt-leb _ _ (c .before .before .before .before .before .before .before .before .if2 .left), ← (c .before .before .before .before .before .before .before .find-pair .ensures), c .before .before .before .before .before .i .given .1, sym (c .before .basis-allowed .ensures) ∙ not-true _ (c .if3 .taken))
 
 mul-wide : tie.Need-mul-wide
-mul-wide c = omega (arith, pair-within _ _ _ _ _ _ _ _ _ (sym (c .before .before .before .before .before .before .before .before .before .find-pair .ensures) ∙ c .before .before .before .before .before .before .before .i .given .1) .source, c .before .before .before .before .before .before .before .before .before .before .before .before .before .before .pre .sources)
+mul-wide c = omega (arith, pair-within _ _ _ _ _ _ _ _ _ (sym (c .before .before .before .before .before .before .before .find-pair .ensures) ∙ c .before .before .before .before .before .i .given .1) .source, c .before .before .before .before .before .before .before .before .before .before .before .before .pre .sources)
 
 element-copy-out-wide : tie.Need-element-copy-out-wide
-element-copy-out-wide c = omega (arith, pair-within _ _ _ _ _ _ _ _ _ (sym (c .before .before .before .before .before .before .before .before .before .find-pair .ensures) ∙ c .before .before .before .before .before .before .before .i .given .1) .source, c .before .before .before .before .before .before .before .before .before .before .before .before .before .before .pre .sources)
+element-copy-out-wide c = omega (arith, pair-within _ _ _ _ _ _ _ _ _ (sym (c .before .before .before .before .before .before .before .find-pair .ensures) ∙ c .before .before .before .before .before .i .given .1) .source, c .before .before .before .before .before .before .before .before .before .before .before .before .pre .sources)
 
 wide-requires : tie.Need-wide-requires
 wide-requires c κs = search needs
@@ -71,16 +64,16 @@ wide-requires c κs = search needs
 wide-requires-2 : tie.Need-wide-requires-2
 wide-requires-2 c κs = search needs
 
-add-if5 : tie.Need-add-if5
-add-if5 c = search needs
+add-if4 : tie.Need-add-if4
+add-if4 c = search needs
+
+returns-5 : tie.Need-returns-5
+unfolding tried.directTried
+returns-5 c = rw (← (c .before .before .before .before .before .before .before .before .before .before .before .before .before .before .before .next-line .ensures), c .before .before .before .before .before .before .before .before .before .before .before .before .before .before .if1 .left, lt-leb _ _ (c .before .before .before .before .before .before .before .before .before .before .before .before .if2 .left), ← (c .before .before .before .before .before .before .before .before .before .before .before .find-pair .ensures), c .before .before .before .before .before .before .before .before .before .i .given .1, sym (c .before .before .before .before .before .basis-allowed .ensures) ∙ not-false _ (c .before .before .before .before .if3 .left), sum-above refl (c .before .before .wide .ensures .0) (c .before .wide2 .ensures .0) (c .if4 .taken))
 
 returns-6 : tie.Need-returns-6
 unfolding tried.directTried
-returns-6 c = rw (← (c .before .before .before .before .before .before .before .before .before .before .before .before .before .before .before .before .before .next-line .ensures), c .before .before .before .before .before .before .before .before .before .before .before .before .before .before .before .before .if1 .left, lt-leb _ _ (c .before .before .before .before .before .before .before .before .before .before .before .before .before .before .if2 .left), ← (c .before .before .before .before .before .before .before .before .before .before .before .before .before .find-pair .ensures), c .before .before .before .before .before .before .before .before .before .before .before .i .given .1, sym (c .before .before .before .before .before .before .before .before .code-leaves .ensures) ∙ not-false _ (c .before .before .before .before .before .before .before .if3 .left), sym (c .before .before .before .before .before .below-most .ensures) ∙ not-false _ (c .before .before .before .before .if4 .left), sum-above refl (c .before .before .wide .ensures .0) (c .before .wide2 .ensures .0) (c .if5 .taken))
-
-returns-7 : tie.Need-returns-7
-unfolding tried.directTried
-returns-7 c = rw (← (c .before .before .before .before .before .before .before .before .before .before .before .before .before .before .before .before .before .next-line .ensures), c .before .before .before .before .before .before .before .before .before .before .before .before .before .before .before .before .if1 .left, lt-leb _ _ (c .before .before .before .before .before .before .before .before .before .before .before .before .before .before .if2 .left), ← (c .before .before .before .before .before .before .before .before .before .before .before .before .before .find-pair .ensures), c .before .before .before .before .before .before .before .before .before .before .before .i .given .1, sym (c .before .before .before .before .before .before .before .before .code-leaves .ensures) ∙ not-false _ (c .before .before .before .before .before .before .before .if3 .left), sym (c .before .before .before .before .before .below-most .ensures) ∙ not-false _ (c .before .before .before .before .if4 .left), sum-within refl (c .before .before .wide .ensures .0) (c .before .wide2 .ensures .0) (c .if5 .left))
+returns-6 c = rw (← (c .before .before .before .before .before .before .before .before .before .before .before .before .before .before .before .next-line .ensures), c .before .before .before .before .before .before .before .before .before .before .before .before .before .before .if1 .left, lt-leb _ _ (c .before .before .before .before .before .before .before .before .before .before .before .before .if2 .left), ← (c .before .before .before .before .before .before .before .before .before .before .before .find-pair .ensures), c .before .before .before .before .before .before .before .before .before .i .given .1, sym (c .before .before .before .before .before .basis-allowed .ensures) ∙ not-false _ (c .before .before .before .before .if3 .left), sum-within refl (c .before .before .wide .ensures .0) (c .before .wide2 .ensures .0) (c .if4 .left))
 
 pub take-direct-spec : {M : Type 1} → statement M
 take-direct-spec =
@@ -93,18 +86,16 @@ take-direct-spec =
     enum-known-i
     enum-told
     returns-3
-    mul-code-leaves
-    element-copy-out-code-leaves
-    code-leaves-requires
+    mul-basis-allowed
+    element-copy-out-basis-allowed
+    mul-basis-allowed-2
+    element-copy-out-basis-allowed-2
+    basis-allowed-requires
     returns-4
-    mul-below-most
-    element-copy-out-below-most
-    below-most-requires
-    returns-5
     mul-wide
     element-copy-out-wide
     wide-requires
     wide-requires-2
-    add-if5
-    returns-6
-    returns-7)
+    add-if4
+    returns-5
+    returns-6)

@@ -11,31 +11,10 @@ returns c = rw (le-ltb _ _ (c .if1 .taken))
 
 returns-2 : tie.Need-returns-2
 unfolding own.directOwn
-returns-2 c = rw (lt-ltb _ _ (c .before .before .if1 .left), le-ltb _ _ (c .if2 .taken))
+returns-2 c = rw (lt-ltb _ _ (c .before .before .before .if1 .left), le-ltb _ _ (c .if2 .taken))
 
-mul-t19 : tie.Need-mul-t19
-mul-t19 c = search needs
-
-element-copy-out-t22 : tie.Need-element-copy-out-t22
-element-copy-out-t22 c = search needs
-
-mul-t23 : tie.Need-mul-t23
-mul-t23 c = search needs
-
-element-copy-out-t26 : tie.Need-element-copy-out-t26
-element-copy-out-t26 c = search needs
-
-mul-t19-2 : tie.Need-mul-t19-2
-mul-t19-2 c = search needs
-
-element-copy-out-t26-2 : tie.Need-element-copy-out-t26-2
-element-copy-out-t26-2 c = search needs
-
-mul-t23-2 : tie.Need-mul-t23-2
-mul-t23-2 c = search needs
-
-element-copy-out-t22-2 : tie.Need-element-copy-out-t22-2
-element-copy-out-t22-2 c = search needs
+own-line-requires : tie.Need-own-line-requires
+own-line-requires c κs = search needs
 
 direct-in-range-requires : tie.Need-direct-in-range-requires
 direct-in-range-requires c κs = search needs
@@ -51,11 +30,11 @@ enum-told c = search needs
 
 returns-3 : tie.Need-returns-3
 unfolding own.directOwn
-returns-3 c = rw (lt-ltb _ _ (c .before .before .before .before .before .before .before .before .before .before .if1 .left), lt-ltb _ _ (c .before .before .before .before .before .before .before .before .if2 .left), ← (c .before .before .before .direct-in-range .ensures), ← (c .before .before .take-direct .ensures), c .enum-told .given .1)
+returns-3 c = rw (lt-ltb _ _ (c .before .before .before .before .before .before .before .before .if1 .left), lt-ltb _ _ (c .before .before .before .before .before .if2 .left), ← (c .before .before .before .before .own-line .ensures), ← (c .before .before .before .direct-in-range .ensures), ← (c .before .before .take-direct .ensures), c .enum-told .given .1)
 
 returns-4 : tie.Need-returns-4
 unfolding own.directOwn
-returns-4 c = rw (lt-ltb _ _ (c .before .before .before .before .before .before .before .before .before .before .before .if1 .left), lt-ltb _ _ (c .before .before .before .before .before .before .before .before .before .if2 .left), ← (c .before .before .before .before .direct-in-range .ensures), ← (c .before .before .before .take-direct .ensures), c .before .y .given .1)
+returns-4 c = rw (lt-ltb _ _ (c .before .before .before .before .before .before .before .before .before .if1 .left), lt-ltb _ _ (c .before .before .before .before .before .before .if2 .left), ← (c .before .before .before .before .before .own-line .ensures), ← (c .before .before .before .before .direct-in-range .ensures), ← (c .before .before .before .take-direct .ensures), c .before .y .given .1)
 
 pub direct-given-spec : {M : Type 1} → statement M
 direct-given-spec =
@@ -63,14 +42,7 @@ direct-given-spec =
     (tie.spec
     returns
     returns-2
-    mul-t19
-    element-copy-out-t22
-    mul-t23
-    element-copy-out-t26
-    mul-t19-2
-    element-copy-out-t26-2
-    mul-t23-2
-    element-copy-out-t22-2
+    own-line-requires
     direct-in-range-requires
     take-direct-requires
     enum-known-y
