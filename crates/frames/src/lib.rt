@@ -120,6 +120,102 @@ pub fn deck_head(s: &[u8]) -> Head {
     size_at(s, 5)
 }
 
+// The next frame: its bytes from `first` up to `upto` in the window; `over` where they are more than a deck may have, and were passed over.
+// It does not go on at the input's end, and after a frame that is not of its form, for which it writes the line `frame` with its number.
+pub struct Frame {
+    pub go: bool,
+    pub over: bool,
+    pub first: usize,
+    pub upto: usize,
+    pub have: usize,
+}
+
+// The most bytes a deck may have.
+const MOST: u64 = 8192;
+
+fn stopped(have: usize) -> Frame
+    ensures { λ r. ⌜ (r .first ≡ have) × (r .upto ≡ have) × (r .have ≡ have) ⌝ }
+{
+    Frame {
+        go: false,
+        over: false,
+        first: have,
+        upto: have,
+        have: have,
+    }
+}
+
+fn broken(have: usize, k: u64) -> Frame
+    ensures { λ r. ⌜ (r .first ≡ have) × (r .upto ≡ have) × (r .have ≡ have) ⌝ }
+{
+    put_line(b"frame ", k);
+    stopped(have)
+}
+
+// The next size bytes of the input passed over; it does not go on where the input ends before that.
+fn pass_over(window: &mut [u8], from: usize, have: usize, size: u64) -> Frame
+    requires { ⌜ (from ≤ have) × (have ≤ length (now window)) ⌝ }
+    ensures { λ r. ⌜ (r .first ≤ r .upto) × (r .upto ≤ r .have) × (r .have ≤ length (now (window .exit))) × (length (now (window .exit)) ≡ length (now (window .entry))) ⌝ }
+{
+    let mut left = size;
+    let mut a = from;
+    let mut b = have;
+    while ((b - a) as u64) < left {
+        left -= (b - a) as u64;
+        let u = refill(window, b, b);
+        a = u.from;
+        b = u.have;
+        if a == b {
+            return stopped(b);
+        }
+    }
+    let next = a + (left as usize);
+    Frame {
+        go: true,
+        over: true,
+        first: next,
+        upto: next,
+        have: b,
+    }
+}
+
+pub fn next(window: &mut [u8], from: usize, have: usize, k: u64) -> Frame
+    requires { ⌜ (from ≤ have) × (have ≤ length (now window)) ⌝ }
+    ensures { λ r. ⌜ (r .first ≤ r .upto) × (r .upto ≤ r .have) × (r .have ≤ length (now (window .exit))) × (length (now (window .exit)) ≡ length (now (window .entry))) ⌝ }
+{
+    let u = ready(window, from, have);
+    let a = u.from;
+    let b = u.have;
+    if a == b {
+        return stopped(b);
+    }
+    let Head::Bytes(size, start) = deck_head(&window[a..b]) else {
+        return broken(b, k);
+    };
+    if b - a < start {
+        return broken(b, k);
+    }
+    let first = a + start;
+    if MOST < size {
+        let f = pass_over(window, first, b, size);
+        if f.go {
+            return f;
+        }
+        return broken(f.have, k);
+    }
+    let rest = (b - first) as u64;
+    if rest < size {
+        return broken(b, k);
+    }
+    Frame {
+        go: true,
+        over: false,
+        first: first,
+        upto: first + (size as usize),
+        have: b,
+    }
+}
+
 // A line of a word and a number.
 pub fn put_line(word: &[u8], n: u64) {
     io::write_all(1, word);

@@ -2,10 +2,7 @@
 // A frame that is not of its form ends the run with a line `frame` and its number.
 ghost use mathlib.Core.Bool.{true};
 ghost use mathlib.Core.Path.{_≡_};
-ghost use Prim.Native.Nat.{_≤_};
-ghost use lib.ListN.{length};
 ghost use Rattle.rules.specs.Writing.{valid};
-use frames::Head;
 use hour::Verdict;
 use put::Wrote;
 use rules::Hour;
@@ -45,59 +42,11 @@ fn put_deck(s: &[u8]) {
     }
 }
 
-struct After {
-    go: bool,
-    from: usize,
-    have: usize,
-}
-
-// One frame; it does not go on at the input's end and after a broken frame.
-fn turn(window: &mut [u8], from: usize, have: usize, k: u64) -> After
-    requires { ⌜ (from ≤ have) × (have ≤ length (now window)) ⌝ }
-    ensures { λ r. ⌜ (r .from ≤ r .have) × (r .have ≤ length (now (window .exit))) × (length (now (window .exit)) ≡ length (now (window .entry))) ⌝ }
-{
-    let u = frames::ready(window, from, have);
-    let a = u.from;
-    let b = u.have;
-    if a == b {
-        return After {
-            go: false,
-            from: a,
-            have: b,
-        };
-    }
-    let Head::Bytes(size, start) = frames::deck_head(&window[a..b]) else {
-        frames::put_line(b"frame ", k);
-        return After {
-            go: false,
-            from: a,
-            have: b,
-        };
-    };
-    if b - a < start {
-        frames::put_line(b"frame ", k);
-        return After {
-            go: false,
-            from: a,
-            have: b,
-        };
-    }
-    let first = a + start;
-    let rest = (b - first) as u64;
-    if rest < size {
-        frames::put_line(b"frame ", k);
-        return After {
-            go: false,
-            from: a,
-            have: b,
-        };
-    }
-    let next = first + (size as usize);
-    put_deck(&window[first..next]);
-    After {
-        go: true,
-        from: next,
-        have: b,
+fn put_frame(over: bool, s: &[u8]) {
+    if over {
+        put_refusal(Refusal::TooLong);
+    } else {
+        put_deck(s);
     }
 }
 
@@ -106,12 +55,15 @@ fn run(window: &mut [u8]) {
     let mut have: usize = 0;
     let mut k: u64 = 1;
     while k < 1000000000000 {
-        let t = turn(window, from, have, k);
-        if !t.go {
+        let f = frames::next(window, from, have, k);
+        if !f.go {
             return;
         }
-        from = t.from;
-        have = t.have;
+        let first = f.first;
+        let upto = f.upto;
+        put_frame(f.over, &window[first..upto]);
+        from = upto;
+        have = f.have;
         k += 1;
     }
 }
