@@ -16,6 +16,7 @@ use Rattle.rules.specs.Hour.{numbers, Progress, reconstructed, pairCells, cells
 use Rattle.rules.specs.Refusals.{accepted}
 use Rattle.rules.specs.Units.{cost, generation}
 use Rattle.rules.specs.declared.Hour.{Hour}
+use Rattle.rules.specs.declared.InternalSequence.{InternalSequence}
 
 pub record Balances (h : Hour) (xs : List ℤ) (i : ℕ) : Type 0 where
   pub mwh : sumℤ (λ j. cellAt xs (pairPlace h j i 0) +ℤ cellAt xs (pairPlace h j i 1)) (h .ndeliveries) +ℤ cellAt xs (openPlace h i 0) ≡ pos (generation (plantAt h i))
@@ -34,15 +35,17 @@ column h p i v w x y b c d e f =
     sumℤ-same (λ j. cellAt (cellsOf h p) (pairPlace h j i v) +ℤ cellAt (cellsOf h p) (pairPlace h j i w)) (λ j. p .cells j i x +ℤ p .cells j i y) (h .ndeliveries)
     (λ j l. rw (pair-at h p j i v l b c ∙ e j, pair-at h p j i w l b d ∙ f j))
 
-pub answer-balances : (h : Hour) → Given h → (xs : List ℤ) → answer h ≡ accepted xs → (i : ℕ) → i < h .nsources → Balances h xs i
-answer-balances h g xs e i l =
-    let a = answer-cells h xs e in
-    let p = a .progress in
-    let b = run-balanced h g p (a .run) in
-    rw (a .is)
-    (record {
+-- wherever a run stands, its cells balance
+pub cells-balance : (h : Hour) (ns : List InternalSequence) (x : ℕ) (p : Progress) → Balanced h ns x p → (i : ℕ) → i < h .nsources → Balances h (cellsOf h p) i
+cells-balance h ns x p b i l =
+    record {
       mwh = rw (column h p i 0 1 directMwh incrementalMwh l (omega arith) (omega arith) (λ j. refl) (λ j. refl), open-at h p i 0 l (omega arith)) (b .mwh i);
       grains =
           rw (column h p i 2 3 directCost incrementalCost l (omega arith) (omega arith) (λ j. refl) (λ j. refl), open-at h p i 1 l (omega arith), open-worth (stateAt (p .states) i) (b .sound i))
           (b .grains i);
-    })
+    }
+
+pub answer-balances : (h : Hour) → Given h → (xs : List ℤ) → answer h ≡ accepted xs → (i : ℕ) → i < h .nsources → Balances h xs i
+answer-balances h g xs e i l =
+    let a = answer-cells h xs e in
+    rw (a .is) (cells-balance h (numbers h) 0 (a .progress) (run-balanced h g (a .progress) (a .run)) i l)

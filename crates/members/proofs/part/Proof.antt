@@ -1,0 +1,17 @@
+-- `members::part` meets its contract: of a size of 0 the members have 0.
+use borrow.Author.Needs.{needs}
+use Rattle.members.specs.Rows.{upTo-nothing}
+use Rattle.members.proofs.part.Statement.{statement}
+use Rattle.members.proofs.part.Tie as tie
+
+returns : tie.Need-returns
+returns c = let a = c .before .args in upTo-nothing (a .total) (a .size) (a .count) (a .mwh) (c .if1 .taken)
+
+part-up-to-requires : tie.Need-part-up-to-requires
+part-up-to-requires c κs = search needs
+
+returns-2 : tie.Need-returns-2
+returns-2 c = search needs
+
+pub part-spec : {M : Type 1} → statement M
+part-spec = tie.close (tie.spec returns part-up-to-requires returns-2)

@@ -1,0 +1,4 @@
+pub mod Shared
+pub mod Amounts
+pub mod Rows
+pub mod Members

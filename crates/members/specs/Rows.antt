@@ -1,0 +1,109 @@
+-- A row: one member's cells, source by source, and what the members have with it.
+use mathlib.Core.Bool.{Bool, true, false}
+use mathlib.Core.List.{List}
+use mathlib.Core.Path.{_≡_, refl, _∙_}
+use Prim.Native.Nat.{ℕ, _+_, _-_, _*_, _/_, _≤_, _<_}
+use native.Mathlib.Nat.{zero-mul, mul-zero, zero-div}
+use native.Mathlib.Numerals.{add-one}
+use native.Mathlib.Omega.{arith}
+use lib.Dec.{eqb}
+use lib.IntN.{ℤ, pos}
+use lib.ListN.{length, getD, set, length-set}
+use lib.Seq.{getD-set-same, getD-set-other}
+use Rattle.balance.specs.AnswerCells.{cellAt}
+use Rattle.laws.specs.Sums.{below-suc, part-most}
+use Rattle.rules.specs.Group.{signed, upTo}
+use Rattle.rules.specs.Words.{if_then_else_}
+
+abbrev pub SizesSmall : ℕ → List ℕ → Type 0
+SizesSmall width sizes = (q : ℕ) → q < width → getD sizes q 0 ≤ 100_000_000_000_000
+
+-- a member with whom the group's `count` members have `mwh` of its `total` MWh; `had` is what those before it have of each size
+pub record RowFits (at width total count mwh : ℕ) (sizes had : List ℕ) (xs : List ℤ) : Type 0 where
+  pub narrow : width ≤ 128
+  pub low : at ≤ 4096
+  pub room : at + width ≤ length xs
+  pub had-long : length had ≡ 128
+  pub mwh-small : mwh ≤ 64_000
+  pub part : mwh ≤ total
+  pub sizes-small : SizesSmall width sizes
+  pub grows : (q : ℕ) → q < width → getD had q 0 ≤ upTo total (getD sizes q 0) count mwh
+
+-- its share of each size stands from `at` on, and the rest stays
+pub record Row (at total count mwh : ℕ) (sizes : List ℕ) (minus : List Bool) (had : List ℕ) (xs : List ℤ) (width : ℕ) (has : List ℕ) (ys : List ℤ) : Type 0 where
+  pub has-long : length has ≡ length had
+  pub has-more : (q : ℕ) → q < width → getD has q 0 ≡ upTo total (getD sizes q 0) count mwh
+  pub has-still : (q : ℕ) → width ≤ q → getD has q 0 ≡ getD had q 0
+  pub long : length ys ≡ length xs
+  pub inside : (q : ℕ) → q < width → cellAt ys (at + q) ≡ signed (getD minus q false) (upTo total (getD sizes q 0) count mwh - getD had q 0)
+  pub before : (p : ℕ) → p < at → cellAt ys p ≡ cellAt xs p
+  pub beyond : (p : ℕ) → at + width ≤ p → cellAt ys p ≡ cellAt xs p
+
+-- What the members have.
+
+-- of a size of 0 they have 0
+pub upTo-nothing : (x size c m : ℕ) → size ≡ 0 → 0 ≡ upTo x size c m
+unfolding upTo
+upTo-nothing x size c m e = rw e (go (eqb x 0) (eqb c 0))
+  where
+    go : (y z : Bool) → 0 ≡ (if y then (if z then 0 else 0) else 0 * m / x)
+    go true true = refl
+    go true false = refl
+    go false z = rw (zero-mul m, zero-div x)
+
+-- before the first they have 0
+pub upTo-start : (x size : ℕ) → 0 ≡ upTo x size 0 0
+unfolding upTo
+upTo-start x size = go (eqb x 0)
+  where
+    go : (y : Bool) → 0 ≡ (if y then 0 else size * 0 / x)
+    go true = refl
+    go false = rw (mul-zero size, zero-div x)
+
+-- never more than all
+pub upTo-most : (x size c m : ℕ) → m ≤ x → upTo x size c m ≤ size
+unfolding upTo
+upTo-most x size c m h = go (eqb x 0) (eqb c 0)
+  where
+    go : (y z : Bool) → (if y then (if z then 0 else size) else size * m / x) ≤ size
+    go true true = omega arith
+    go true false = omega arith
+    go false z = part-most size m x h
+
+-- The row's loop.
+
+module _ (at total count mwh : ℕ) (sizes : List ℕ) (minus : List Bool) (had : List ℕ) (xs : List ℤ) where
+  pub row-none : Row at total count mwh sizes minus had xs 0 had xs
+  row-none = record {
+    has-long = refl;
+    has-more = λ q l. absurd (omega arith);
+    has-still = λ q l. refl;
+    long = refl;
+    inside = λ q l. absurd (omega arith);
+    before = λ p l. refl;
+    beyond = λ p l. refl;
+  }
+
+  pub row-more : (width q : ℕ) (has : List ℕ) (ys : List ℤ) (v : ℕ) (z : ℤ) → RowFits at width total count mwh sizes had xs → q < width
+      → Row at total count mwh sizes minus had xs q has ys → v ≡ upTo total (getD sizes q 0) count mwh → z ≡ signed (getD minus q false) (v - getD has q 0)
+      → Row at total count mwh sizes minus had xs (q + 1) (set has q v) (set ys (at + q) z)
+  row-more width q has ys v z f l r e s = record {
+    has-long = length-set has q v ∙ r .has-long;
+    has-more = rw (add-one q) (below-suc (λ k. getD (set has q v) k 0 ≡ upTo total (getD sizes k 0) count mwh) q
+        (λ k m. getD-set-other has q k v 0 (λ w. omega arith) ∙ r .has-more k m)
+        (getD-set-same has q v 0 (omega (arith, r .has-long, f .had-long, f .narrow)) ∙ e));
+    has-still = λ k m. getD-set-other has q k v 0 (λ w. omega arith) ∙ r .has-still k (omega arith);
+    long = length-set ys (at + q) z ∙ r .long;
+    inside = rw (add-one q) (below-suc (λ k. cellAt (set ys (at + q) z) (at + k) ≡ signed (getD minus k false) (upTo total (getD sizes k 0) count mwh - getD had k 0)) q
+        (λ k m. getD-set-other ys (at + q) (at + k) z (pos 0) (λ w. omega arith) ∙ r .inside k m)
+        (getD-set-same ys (at + q) z (pos 0) (omega (arith, r .long, f .room)) ∙ s ∙ still q (r .has-still q (omega arith)) e));
+    before = λ p m. getD-set-other ys (at + q) p z (pos 0) (λ w. omega arith) ∙ r .before p m;
+    beyond = λ p m. getD-set-other ys (at + q) p z (pos 0) (λ w. omega arith) ∙ r .beyond p (omega arith);
+  }
+    where
+      still : (q : ℕ) → getD has q 0 ≡ getD had q 0 → v ≡ upTo total (getD sizes q 0) count mwh
+          → signed (getD minus q false) (v - getD has q 0) ≡ signed (getD minus q false) (upTo total (getD sizes q 0) count mwh - getD had q 0)
+      still q a b = rw (a, b)
+
+  pub row-all : (width q : ℕ) (has : List ℕ) (ys : List ℤ) → q ≤ width → width ≤ q → Row at total count mwh sizes minus had xs q has ys → Row at total count mwh sizes minus had xs width has ys
+  row-all width q has ys l m r = let e : q ≡ width = omega arith in rw e at r

@@ -1,0 +1,80 @@
+-- The columns are filled up to the index, and then are those of all n deliveries.
+use Prim.Native.Nat.{_-_, _≤_}
+use native.Mathlib.Omega.{arith}
+use borrow.Author.Needs.{needs}
+use Rattle.sequence.specs.Columns.{Columns, columns-none, columns-less, columns-more, columns-ranged}
+use Rattle.sequence.proofs.numbers.Statement.{statement}
+use Rattle.sequence.proofs.numbers.Tie as tie
+
+abbrev Inv-loop : tie.InvT-loop
+Inv-loop n ts kinds₀ blocks₀ inputs₀ i₀ kinds blocks inputs i = (i ≤ n) × Columns ts i kinds blocks inputs
+
+abbrev μ-loop : tie.MeasureT-loop
+μ-loop n ts kinds₀ blocks₀ inputs₀ i₀ kinds blocks inputs i = n - i
+
+loop-holds : tie.Need-loop-holds Inv-loop μ-loop
+loop-holds c = (omega arith, columns-none (search needs))
+
+mul-t : tie.Need-mul-t Inv-loop μ-loop
+mul-t c = omega arith
+
+array-copy-out-t : tie.Need-array-copy-out-t Inv-loop μ-loop
+array-copy-out-t c = omega arith
+
+mul-kinds : tie.Need-mul-kinds Inv-loop μ-loop
+mul-kinds c = omega arith
+
+array-write-kinds : tie.Need-array-write-kinds Inv-loop μ-loop
+array-write-kinds c = omega arith
+
+mul-blocks : tie.Need-mul-blocks Inv-loop μ-loop
+mul-blocks c = omega arith
+
+array-write-blocks : tie.Need-array-write-blocks Inv-loop μ-loop
+array-write-blocks c = omega arith
+
+mul-inputs : tie.Need-mul-inputs Inv-loop μ-loop
+mul-inputs c = omega arith
+
+array-write-inputs : tie.Need-array-write-inputs Inv-loop μ-loop
+array-write-inputs c = omega arith
+
+add-i : tie.Need-add-i Inv-loop μ-loop
+add-i c = omega arith
+
+loop-less : tie.Need-loop-less Inv-loop μ-loop
+loop-less c = omega arith
+
+loop-again : tie.Need-loop-again Inv-loop μ-loop
+loop-again c = (omega arith, columns-more (c .before .before .before .loop .inv .1) (omega arith))
+
+number-all-requires : tie.Need-number-all-requires Inv-loop μ-loop
+number-all-requires c κs =
+    let a = c .before .before .before in
+    columns-ranged (columns-less (a .before .loop .inv .1) (a .before .before .args .n) (a .loop-test .left)) (a .before .before .pre)
+
+returns : tie.Need-returns Inv-loop μ-loop
+returns c =
+    let a = c .before .before .before .before in
+    c .number-all .ensures _ (columns-less (a .before .loop .inv .1) (a .before .before .args .n) (a .loop-test .left))
+
+pub numbers-spec : {M : Type 1} → statement M
+numbers-spec =
+    tie.close
+    (tie.spec
+    Inv-loop
+    μ-loop
+    loop-holds
+    mul-t
+    array-copy-out-t
+    mul-kinds
+    array-write-kinds
+    mul-blocks
+    array-write-blocks
+    mul-inputs
+    array-write-inputs
+    add-i
+    loop-less
+    loop-again
+    number-all-requires
+    returns)

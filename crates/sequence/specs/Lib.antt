@@ -1,0 +1,4 @@
+pub mod Columns
+pub mod Placings
+pub mod RuleByRule
+pub mod SameGroups
