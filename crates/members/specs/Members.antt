@@ -24,16 +24,16 @@ use Rattle.shares.specs.Sharing.{upTo-grows, member-share}
 
 -- The group's MWh and members.
 
+member-most : (y : Bool) (m n : ℕ) → m ≤ n → (if y then m else 0) ≤ n
+member-most true m n l = l
+member-most false m n l = omega arith
+
 module _ (h : Hour) (ns : List InternalSequence) (x : ℕ) where
   abbrev mwhAt : ℕ → ℕ
   mwhAt j = getD (h .deliveries) j noDelivery .mwh
 
-  member-mwh : (y : Bool) (m : ℕ) → m ≤ 2000 → (if y then m else 0) ≤ 2000
-  member-mwh true m l = l
-  member-mwh false m l = omega arith
-
   pub scheduled-small : DeliveriesSmall h → (j : ℕ) → j ≤ h .ndeliveries → scheduled h ns x j ≤ j * 2000
-  scheduled-small d j l = sumTo-bound _ 2000 j (λ i m. member-mwh (member ns x i) (mwhAt i) (d .mwh i (omega arith)))
+  scheduled-small d j l = sumTo-bound _ 2000 j (λ i m. member-most (member ns x i) (mwhAt i) 2000 (d .mwh i (omega arith)))
 
   scheduled-part : (j : ℕ) → j ≤ h .ndeliveries → scheduled h ns x j ≤ scheduled h ns x (h .ndeliveries)
   scheduled-part j l = sumTo-longer _ j (h .ndeliveries) l
@@ -45,12 +45,8 @@ module _ (h : Hour) (ns : List InternalSequence) (x : ℕ) where
   scheduled-skip j m e s = omega (arith, sumTo-more (λ i. if member ns x i then mwhAt i else 0) j m 0 s (rw e))
 
 module _ (ns : List InternalSequence) (x : ℕ) where
-  member-one : (y : Bool) → (if y then 1 else 0) ≤ 1
-  member-one true = omega arith
-  member-one false = omega arith
-
   pub counted-small : (j : ℕ) → counted ns x j ≤ j
-  counted-small j = omega (arith, sumTo-bound (λ i. if member ns x i then 1 else 0) 1 j (λ i m. member-one (member ns x i)))
+  counted-small j = omega (arith, sumTo-bound (λ i. if member ns x i then 1 else 0) 1 j (λ i m. member-most (member ns x i) 1 1 (omega arith)))
 
   pub counted-take : (j c : ℕ) → member ns x j ≡ true → c ≡ counted ns x j → c + 1 ≡ counted ns x (j + 1)
   counted-take j c e s = sumTo-more (λ i. if member ns x i then 1 else 0) j c 1 s (rw e)
@@ -74,7 +70,7 @@ pub record RowsShared (h : Hour) (ns : List InternalSequence) (x : ℕ) (sizes :
   pub rows : (k q : ℕ) → q < h .nsources * 4 → k < h .ndeliveries → cellAt ys (k * (h .nsources * 4) + q) ≡ due h ns x sizes minus k q (cellAt xs (k * (h .nsources * 4) + q))
   pub beyond : (p : ℕ) → h .ndeliveries * (h .nsources * 4) ≤ p → cellAt ys p ≡ cellAt xs p
 
--- after the first j deliveries, of whom `count` members have `mwh` MWh
+-- after the first j deliveries: `count` members among them, with `mwh` MWh together
 pub record Going (h : Hour) (ns : List InternalSequence) (x total : ℕ) (sizes : List ℕ) (minus : List Bool) (xs : List ℤ) (j count mwh : ℕ) (had : List ℕ) (ys : List ℤ) : Type 0 where
   pub counts : count ≡ counted ns x j
   pub mwhs : mwh ≡ scheduled h ns x j
