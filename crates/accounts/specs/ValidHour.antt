@@ -7,7 +7,7 @@ use native.Mathlib.Decide.{decLt}
 use native.Mathlib.Omega.{arith}
 use lib.ListN.{getD, List·getD-eq-default}
 use Rattle.balance.specs.CellsFit.{SmallHour}
-use Rattle.balance.specs.HourBalances.{Given}
+use Rattle.balance.specs.HourBalances.{plantAt, Given}
 use Rattle.merit.specs.ChangedFromB.{Starts, unit-starts}
 use Rattle.merit.specs.NumbersStaySmall.{PlantSmall}
 use Rattle.roundtrip.specs.Entries.{SourceGiven, DeliveryGiven, PlantRanged, curve-from, Filled}
@@ -67,6 +67,10 @@ module _ (h : Hour) (v : valid h ≡ true) where
       record {
         plants = everywhere SourceGiven (λ x. PlantSmall (x .plant)) blankSource noSource (h .sources) (h .nsources) sources-given (λ x g. plant-small (x .plant) (g .within)) (omega arith) missing-small;
       }
+
+  pub valid-levels : (i : ℕ) → units.levelled (plantAt h i) ≡ true
+  valid-levels =
+      everywhere SourceGiven (λ x. units.levelled (x .plant) ≡ true) blankSource noSource (h .sources) (h .nsources) sources-given (λ x g. g .levels) refl refl
 
   pub valid-sequences : (j : ℕ) → deliveryAt h j .sequence .0 ≤ 99
   valid-sequences =

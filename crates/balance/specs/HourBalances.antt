@@ -118,7 +118,7 @@ module _ (h : Hour) (ns : List InternalSequence) where
   -- All groups.
 
   -- a delivery whose number is below x
-  abbrev below : ℕ → ℕ → Bool
+  abbrev pub below : ℕ → ℕ → Bool
   below x j = ltb (internalAt ns j) x
 
   -- where a run stands when all numbers from x up are done
@@ -131,7 +131,7 @@ module _ (h : Hour) (ns : List InternalSequence) where
     pub grains : (i : ℕ) → sumℤ (λ j. p .cells j i directCost +ℤ p .cells j i incrementalCost) (h .ndeliveries) +ℤ pos (worth (stateAt (p .states) i)) ≡ pos (cost (plantAt h i) (generation (plantAt h i)))
 
   -- the lines of number x and those below it are those below x + 1
-  lines-left : (x i n : ℕ) → percents (member ns x) (h .directs) i n + percents (below x) (h .directs) i n ≡ percents (below (suc x)) (h .directs) i n
+  pub lines-left : (x i n : ℕ) → percents (member ns x) (h .directs) i n + percents (below x) (h .directs) i n ≡ percents (below (suc x)) (h .directs) i n
   lines-left x i n = sumTo-add n _ _ _ (λ q l. one (getD (h .directs) q noDirect))
     where
       put : (a b c : Bool) (line : Direct) → (a ≡ true → (b ≡ false) × (c ≡ true)) → (a ≡ false → c ≡ b) → percentOf a line i + percentOf b line i ≡ percentOf c line i

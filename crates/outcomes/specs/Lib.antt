@@ -1,0 +1,3 @@
+pub mod Promised
+pub mod WrongReconstructors
+pub mod AccountsCloseOverTheCells

@@ -1,0 +1,1 @@
+// What holds of the promises of the public calls. No function: the statements are in specs/.

@@ -1,0 +1,9 @@
+pub mod Answers
+pub mod StatesOpened
+pub mod StatesStayReady
+pub mod HighestNumber
+pub mod GroupsOneByOne
+pub mod CellsWritten
+pub mod CellsCopied
+pub mod GroupTurns
+pub mod WholeAnswer

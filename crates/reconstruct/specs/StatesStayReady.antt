@@ -1,0 +1,70 @@
+-- Before every group of a valid hour the states are ready for it: an engine may move each source, and the group's D lines fit.
+use mathlib.Core.Bool.{true}
+use mathlib.Core.List.{List}
+use mathlib.Core.Path.{_≡_}
+use Prim.Native.Nat.{ℕ, suc, _-_, _≤_}
+use native.Mathlib.Omega.{arith}
+use Rattle.accounts.specs.ValidHour.{valid-balances, valid-small, valid-levels}
+use Rattle.balance.specs.HourBalances.{plantAt, afterLines, Grouped, started, started-at, groups-keep, Balanced, lines-left, lines-directed, grouped-balanced, none-balanced, start-balanced}
+use Rattle.directs.specs.Lines.{LinesFit, TookFit}
+use Rattle.merit.specs.LevelNeverBelowB.{stateAt, Took}
+use Rattle.roundtrip.specs.GivenHour.{GivenHour, valid-given}
+use Rattle.rules.specs.Hour.{member, Progress, groups}
+use Rattle.rules.specs.Refusals.{accepted}
+use Rattle.rules.specs.Writing.{valid}
+use Rattle.rules.specs.declared.Hour.{Hour}
+use Rattle.rules.specs.declared.InternalSequence.{InternalSequence}
+use Rattle.shift.specs.Ready.{AllReady, opened-ready, took-ready, remainder-ready}
+
+module _ (h : Hour) (ns : List InternalSequence) where
+  -- where a run stands when all numbers from x up are done
+  pub record Standing (x : ℕ) (p : Progress) : Type 0 where
+    pub balanced : Balanced h ns x p
+    pub ready : AllReady (p .states) (h .nsources)
+
+  -- what the D lines of group x do to each source
+  pub lines-took : (x : ℕ) (p : Progress) → Standing (suc x) p → (i : ℕ) → Took (stateAt (p .states) i) (stateAt (afterLines h ns x p) i)
+  lines-took x p s i = lines-directed h ns x p (s .balanced) i .took
+
+  pub lines-ready : (x : ℕ) (p : Progress) → Standing (suc x) p → AllReady (afterLines h ns x p) (h .nsources)
+  lines-ready x p s = record { n-small = s .ready .n-small; ready = λ i. took-ready _ _ (s .ready .ready i) (lines-took x p s i) }
+
+  pub lines-took-fit : (x : ℕ) (p : Progress) → Standing (suc x) p → TookFit (p .states) (afterLines h ns x p) (h .nsources)
+  lines-took-fit x p s = record {
+    n-small = s .ready .n-small;
+    more = λ i. lines-took x p s i .more;
+    small = λ i. let r = lines-ready x p s .ready i in omega (arith, r .sound .part, r .small .b);
+  }
+
+  grouped-standing : (x : ℕ) (p q : Progress) → Standing (suc x) p → Grouped h ns x p q → Standing x q
+  grouped-standing x p q s g = record {
+    balanced = grouped-balanced h ns x p q (s .balanced) g;
+    ready = rw (g .is) (remainder-ready _ _ _ _ _ (g .us) (lines-ready x p s) (g .done));
+  }
+
+  module _ (v : valid h ≡ true) where
+    given : GivenHour h
+    given = valid-given h v
+
+    start-standing : Standing 1000 (started h ns)
+    start-standing = record {
+      balanced = start-balanced h ns (valid-balances h v);
+      ready = record {
+        n-small = given .sources .few;
+        ready = λ i. rw (started-at h ns i) (opened-ready (plantAt h i) (valid-balances h v .starts i) (valid-small h v .plants i) (valid-levels h v i));
+      };
+    }
+
+    pub groups-stand : (k : ℕ) → k ≤ 1000 → (p : Progress) → groups h ns k ≡ accepted p → Standing (1000 - k) p
+    groups-stand =
+        groups-keep h ns Standing start-standing (λ x p z s. record { balanced = none-balanced h ns x p (s .balanced); ready = s .ready }) grouped-standing
+
+    pub lines-fit : (x : ℕ) (p : Progress) → Standing (suc x) p → LinesFit (member ns x) (h .directs) (p .states) (h .ndirects)
+    lines-fit x p s = record {
+      k-small = given .directs .few;
+      source = λ i l. omega (arith, given .directs .entry i l .source, given .sources .few);
+      delivery = λ i l. omega (arith, given .directs .entry i l .delivery, given .deliveries .few);
+      sound = s .balanced .sound;
+      small = λ i. s .ready .ready i .small;
+      percent = λ i. omega (arith, lines-left h ns x i (h .ndirects), s .balanced .percent i);
+    }

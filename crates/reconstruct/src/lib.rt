@@ -1,0 +1,230 @@
+// Document 01's whole hour: every group from the highest number down, by either engine, and the answer's cells into a lent buffer.
+// The promise cites rules' Calls: reconstruction, and leaves for the buffer. The other contracts cite specs/.
+ghost use mathlib.Core.Bool.{true};
+ghost use mathlib.Core.List.{map, _++_};
+ghost use mathlib.Core.Path.{_≡_};
+ghost use Prim.Native.Nat.{_≤_};
+ghost use lib.IntN.{pos};
+ghost use lib.ListN.{length, take, drop, replicate};
+ghost use Rattle.rules.specs.Calls.{reconstruction, leaves};
+ghost use Rattle.rules.specs.Group.{opened};
+ghost use Rattle.rules.specs.Writing.{valid};
+ghost use Rattle.reconstruct.specs.Answers.{reconstructedOf};
+ghost use Rattle.reconstruct.specs.HighestNumber.{above, Highest};
+ghost use Rattle.reconstruct.specs.GroupTurns.{TurnFits, Turned};
+ghost use Rattle.reconstruct.specs.CellsWritten.{OpenFits, OpenPut};
+use group::Settled;
+use group::Verdict;
+use rules::Hour;
+use rules::InternalSequence;
+use rules::Plant;
+use rules::Refusal;
+use rules::Running;
+use rules::Source;
+
+// How many cells were written, or why none.
+pub enum Reconstructed {
+    Cells(usize),
+    Refused(Refusal),
+}
+
+// A source at the hour's start.
+fn open(p: Plant) -> Running
+    ensures { λ r. ⌜ r ≡ opened p ⌝ }
+{
+    Running {
+        plant: p,
+        v: group::generation_of(p),
+        d: 0,
+        b: 0,
+        based: false,
+        percent: 0,
+        paid: 0,
+    }
+}
+
+fn open_all(sources: [Source; 32]) -> [Running; 32]
+    ensures { λ r. ⌜ r ≡ map (λ s. opened (s .plant)) sources ⌝ }
+{
+    let blank = open(Plant::Fixed { g: 0 });
+    let mut states = [blank; 32];
+    let mut i = 0;
+    while i < 32 {
+        let s = sources[i];
+        let p = s.plant;
+        states[i] = open(p);
+        i += 1;
+    }
+    states
+}
+
+// The greater of best and one more than y, where y is below x.
+fn higher(x: u32, y: u32, best: u32) -> u32
+    ensures { λ r. ⌜ r ≡ above x y best ⌝ }
+{
+    if x <= y {
+        return best;
+    }
+    if y < best {
+        return best;
+    }
+    y + 1
+}
+
+// One more than the highest number below x of the first n deliveries, or 0.
+fn highest(numbers: [InternalSequence; 32], n: usize, x: u32) -> u32
+    requires { ⌜ n ≤ 32 ⌝ }
+    ensures { λ r. ⌜ Highest numbers n x r ⌝ }
+{
+    let mut best = 0;
+    let mut j = 0;
+    while j < n {
+        let y = numbers[j];
+        best = higher(x, y.0, best);
+        j += 1;
+    }
+    best
+}
+
+fn cell(x: u64) -> i64
+    requires { ⌜ x ≤ 100_000_000_000_000 ⌝ }
+    ensures { λ r. ⌜ r ≡ pos x ⌝ }
+{
+    x as i64
+}
+
+// Each source's open MWh and open cost, from a place on.
+fn put_open(cells: &mut [i64], at: usize, states: [Running; 32], n: usize)
+    requires { ⌜ OpenFits states at n (now cells) ⌝ }
+    ensures { λ _. ⌜ OpenPut states at n (now (cells .entry)) (now (cells .exit)) ⌝ }
+{
+    let mut i = 0;
+    while i < n {
+        let s = states[i];
+        let grains = curve::open_cost(s);
+        let p = at + i * 2;
+        cells[p] = cell(s.v as u64);
+        cells[p + 1] = cell(grains);
+        i += 1;
+    }
+}
+
+// The first n cells over the lent ones.
+fn copy_out(cells: &[i64; 4160], out: &mut [i64], n: usize)
+    requires { ⌜ (n ≤ length (now out)) × (n ≤ 4160) × (length (now cells) ≡ 4160) ⌝ }
+    ensures { λ _. ⌜ now (out .exit) ≡ take n (now (cells .entry)) ++ drop n (now (out .entry)) ⌝ }
+{
+    let mut i = 0;
+    while i < n {
+        out[i] = cells[i];
+        i += 1;
+    }
+}
+
+// One group: its D lines, its remainder, and its members' shares.
+fn take_turn(
+    h: Hour,
+    numbers: [InternalSequence; 32],
+    number: u32,
+    states: [Running; 32],
+    by_price: bool,
+    cells: &mut [i64],
+) -> Settled
+    requires { ⌜ TurnFits h numbers number states (now cells) ⌝ }
+    ensures { λ r. ⌜ Turned h numbers number r (now (cells .exit)) ⌝ }
+{
+    let lines = h.directs;
+    let after = directs::allocate_lines(states, lines, h.ndirects, numbers, number);
+    let took = directs::took_all(states, after, h.nsources);
+    let total = members::total_of(h, numbers, number);
+    let end = group::settle(
+        InternalSequence(number),
+        h.nsources,
+        total,
+        took,
+        after,
+        by_price,
+    );
+    let verdict = end.verdict;
+    let Verdict::Done = verdict else {
+        return end;
+    };
+    let settled = end.states;
+    members::share_group(cells, h, numbers, number, states, after, settled, total);
+    end
+}
+
+// Every number that a delivery has, from the highest down; the first refusal ends the run.
+fn take_turns(
+    h: Hour,
+    numbers: [InternalSequence; 32],
+    by_price: bool,
+    cells: &mut [i64],
+) -> Settled
+    requires { ⌜ (valid h ≡ true) × (now cells ≡ replicate 4160 (pos 0)) ⌝ }
+    ensures { λ r. ⌜ Turned h numbers 0 r (now (cells .exit)) ⌝ }
+{
+    let n = h.ndeliveries;
+    let sources = h.sources;
+    let mut states = open_all(sources);
+    let mut x = highest(numbers, n, 1000);
+    while 0 < x {
+        let end = take_turn(h, numbers, x - 1, states, by_price, cells);
+        let verdict = end.verdict;
+        let Verdict::Done = verdict else {
+            return end;
+        };
+        let settled = end.states;
+        states = settled;
+        x = highest(numbers, n, x - 1);
+    }
+    Settled {
+        verdict: Verdict::Done,
+        states: states,
+    }
+}
+
+fn run(h: Hour, out: &mut [i64], by_price: bool) -> Reconstructed
+    ensures outcome { λ r. ⌜ r ≡ reconstructedOf (reconstruction h (length (now (out .entry)))) ⌝ }
+    ensures cells { λ _. ⌜ now (out .exit) ≡ leaves (reconstruction h (length (now (out .entry)))) (now (out .entry)) ⌝ }
+{
+    if !record::valid(h) {
+        return Reconstructed::Refused(Refusal::NoDeck);
+    }
+    let n = h.nsources;
+    let pairs = h.ndeliveries * (n * 4);
+    let count = pairs + n * 2;
+    if out.len() < count {
+        return Reconstructed::Refused(Refusal::Short);
+    }
+    let deliveries = h.deliveries;
+    let placed = sequence::numbers(deliveries, h.ndeliveries);
+    let mut cells = [0i64; 4160];
+    let end = take_turns(h, placed, by_price, &mut cells);
+    let verdict = end.verdict;
+    match verdict {
+        Verdict::Done => {
+            let states = end.states;
+            put_open(&mut cells, pairs, states, n);
+            copy_out(&cells, out, count);
+            Reconstructed::Cells(count)
+        }
+        Verdict::Refused(r) => Reconstructed::Refused(r),
+    }
+}
+
+// By the plain rule, one MWh at a time.
+pub fn plain(h: Hour, out: &mut [i64]) -> Reconstructed
+    ensures outcome { λ r. ⌜ r ≡ reconstructedOf (reconstruction h (length (now (out .entry)))) ⌝ }
+    ensures cells { λ _. ⌜ now (out .exit) ≡ leaves (reconstruction h (length (now (out .entry)))) (now (out .entry)) ⌝ }
+{
+    run(h, out, false)
+}
+
+// By a search for the price.
+pub fn price(h: Hour, out: &mut [i64]) -> Reconstructed
+    ensures outcome { λ r. ⌜ r ≡ reconstructedOf (reconstruction h (length (now (out .entry)))) ⌝ }
+    ensures cells { λ _. ⌜ now (out .exit) ≡ leaves (reconstruction h (length (now (out .entry)))) (now (out .entry)) ⌝ }
+{
+    run(h, out, true)
+}
