@@ -1,0 +1,278 @@
+// For tests and timing from C: a deck's hour reconstructed into lent cells by either rule, also from a record that is spoiled in one field.
+// An answer is the number of cells, or a refusal's number times 65,536 and its place.
+use hour::Verdict;
+use reconstruct::Reconstructed;
+use rules::Basis;
+use rules::Delivery;
+use rules::Direct;
+use rules::HeatCurve;
+use rules::Hour;
+use rules::InputSequence;
+use rules::Label;
+use rules::Plant;
+use rules::Refusal;
+use rules::Source;
+use rules::Unit;
+ghost use Prim.Native.Nat.{_<_};
+
+fn refusal_code(r: Refusal) -> u64 {
+    (codes::number_of(r) % 16) * 65536 + (codes::place_of(r) as u64) % 65536
+}
+
+fn answer_code(x: Reconstructed) -> u64 {
+    match x {
+        Reconstructed::Cells(n) => n as u64,
+        Reconstructed::Refused(r) => refusal_code(r),
+    }
+}
+
+fn answered(h: Hour, out: &mut [i64], by_price: bool) -> u64 {
+    if by_price {
+        return answer_code(reconstruct::price(h, out));
+    }
+    answer_code(reconstruct::plain(h, out))
+}
+
+#[no_mangle]
+pub extern "C" fn trial_cells(deck: &[u8], by_price: bool, out: &mut [i64]) -> u64 {
+    let x = deck::read(deck);
+    let v = x.verdict;
+    let h = x.hour;
+    match v {
+        Verdict::Accepted => answered(h, out, by_price),
+        Verdict::Refused(r) => refusal_code(r),
+    }
+}
+
+// Spoiled records: each field out of its range, so that no deck gives the record.
+
+fn spoiled_label(l: Label, field: usize) -> Label {
+    let mut b = l.bytes;
+    if field == 0 {
+        return Label { len: 17, bytes: b };
+    }
+    if field == 1 {
+        b[0] = 31;
+        return Label {
+            len: l.len,
+            bytes: b,
+        };
+    }
+    b[15] = 127;
+    Label {
+        len: l.len,
+        bytes: b,
+    }
+}
+
+fn spoiled_curve(c: HeatCurve, field: usize) -> HeatCurve {
+    let mut x = c;
+    if field == 0 {
+        x.k = 0;
+        return x;
+    }
+    if field == 1 {
+        x.a = 1_000_000;
+        return x;
+    }
+    if field == 2 {
+        x.b = 100_000;
+        return x;
+    }
+    if field == 3 {
+        x.c = 100;
+        return x;
+    }
+    x.r = 39_997;
+    x
+}
+
+fn spoiled_unit(u: Unit, field: usize) -> Unit {
+    let mut x = u;
+    if field == 0 {
+        x.g = 2001;
+        return x;
+    }
+    if field == 1 {
+        x.h = 2001;
+        return x;
+    }
+    if field == 2 {
+        x.n = 0;
+        return x;
+    }
+    if field == 3 {
+        x.o = 0;
+        return x;
+    }
+    x.e = 0;
+    x
+}
+
+fn flat_unit(g: u32) -> Unit {
+    Unit {
+        g: g,
+        h: g,
+        n: g,
+        o: g,
+        e: g,
+        curve: HeatCurve {
+            k: 1,
+            a: 0,
+            b: 0,
+            c: 0,
+            r: 0,
+        },
+    }
+}
+
+fn unit_of(p: Plant) -> Unit {
+    match p {
+        Plant::Unit(u) => u,
+        Plant::Purchase { g, rate: _ } => flat_unit(g),
+        Plant::Fixed { g } => flat_unit(g),
+    }
+}
+
+fn with_curve(u: Unit, c: HeatCurve) -> Unit {
+    let mut x = u;
+    x.curve = c;
+    x
+}
+
+fn spoiled_plant(p: Plant, field: usize) -> Plant {
+    let u = unit_of(p);
+    if field < 5 {
+        return Plant::Unit(spoiled_unit(u, field));
+    }
+    if field < 10 {
+        return Plant::Unit(with_curve(u, spoiled_curve(u.curve, field - 5)));
+    }
+    if field == 10 {
+        return Plant::Purchase { g: 2001, rate: 1 };
+    }
+    if field == 11 {
+        return Plant::Purchase {
+            g: 1,
+            rate: 1_000_000,
+        };
+    }
+    Plant::Fixed { g: 2001 }
+}
+
+// Fields 0 to 12 of its plant, then 3 of its label.
+fn spoiled_source(s: Source, field: usize) -> Source {
+    let p = s.plant;
+    let l = s.label;
+    if field < 13 {
+        return Source {
+            plant: spoiled_plant(p, field),
+            label: l,
+        };
+    }
+    Source {
+        plant: p,
+        label: spoiled_label(l, field - 13),
+    }
+}
+
+fn spoiled_delivery(t: Delivery, field: usize) -> Delivery {
+    let mut x = t;
+    if field == 0 {
+        let q = InputSequence(100);
+        x.sequence = q;
+        return x;
+    }
+    if field == 1 {
+        x.kind = 10;
+        return x;
+    }
+    if field == 2 {
+        x.block = 10;
+        return x;
+    }
+    if field == 3 {
+        x.mwh = 2001;
+        return x;
+    }
+    if field < 7 {
+        let l = spoiled_label(t.label, field - 4);
+        x.label = l;
+    }
+    x
+}
+
+fn spoiled_direct(d: Direct, field: usize) -> Direct {
+    let mut x = d;
+    if field == 0 {
+        return Direct {
+            basis: Basis::Mwh(2000),
+            percent: d.percent,
+            source: d.source,
+            delivery: d.delivery,
+        };
+    }
+    if field == 1 {
+        x.percent = 101;
+        return x;
+    }
+    if field == 2 {
+        x.source = 32;
+        return x;
+    }
+    x.delivery = 32;
+    x
+}
+
+fn spoiled_counts(h: Hour, field: usize) -> Hour {
+    let mut x = h;
+    if field == 0 {
+        x.losses = 64_001;
+        return x;
+    }
+    if field == 1 {
+        x.nsources = 33;
+        return x;
+    }
+    if field == 2 {
+        x.ndeliveries = 33;
+        return x;
+    }
+    x.ndirects = 33;
+    x
+}
+
+// Fields 0 to 15 of a source, then 7 of a delivery, 4 of a D line, 4 of the hour itself.
+fn spoiled(h: Hour, field: usize, at: usize) -> Hour
+    requires { ⌜ at < 32 ⌝ }
+{
+    let mut x = h;
+    if field < 16 {
+        let s = h.sources[at];
+        x.sources[at] = spoiled_source(s, field);
+        return x;
+    }
+    if field < 23 {
+        let t = h.deliveries[at];
+        x.deliveries[at] = spoiled_delivery(t, field - 16);
+        return x;
+    }
+    if field < 27 {
+        let d = h.directs[at];
+        x.directs[at] = spoiled_direct(d, field - 23);
+        return x;
+    }
+    spoiled_counts(h, field - 27)
+}
+
+#[no_mangle]
+pub extern "C" fn trial_spoiled(
+    deck: &[u8],
+    field: usize,
+    at: usize,
+    by_price: bool,
+    out: &mut [i64],
+) -> u64 {
+    let x = deck::read(deck);
+    answered(spoiled(x.hour, field, at % 32), out, by_price)
+}
