@@ -25,9 +25,8 @@ use Rattle.rules.specs.Writing.{valid}
 use Rattle.rules.specs.declared.Hour.{Hour}
 use Rattle.rules.specs.declared.Refusal.the-variants.{Short, NoDeck}
 use Rattle.reconstruct.specs.Answers.{reconstructedOf}
-use Rattle.outcomes.specs.Promised.{Promised}
-use Rattle.reconstruct.specs.declared.Reconstructed.{Reconstructed}
-use Rattle.reconstruct.specs.declared.Reconstructed.the-variants.{Cells, Refused}
+use Rattle.outcomes.specs.Promised.{Promised, countOf}
+use Rattle.reconstruct.specs.declared.Reconstructed.the-variants.{Cells}
 
 -- what a call that answers with cells has done
 pub record Wrote (h : Hour) (entry : List ℤ) (n : ℕ) (exit : List ℤ) : Type 0 where
@@ -37,12 +36,8 @@ pub record Wrote (h : Hour) (entry : List ℤ) (n : ℕ) (exit : List ℤ) : Typ
   pub count : n ≡ length cells
   pub exit-is : exit ≡ cells ++ drop (length cells) entry
 
-countOf : Reconstructed → ℕ
-countOf (Cells n) = suc n
-countOf (Refused r) = 0
-
 pub call-wrote : (h : Hour) (entry : List ℤ) (n : ℕ) (exit : List ℤ) → Promised h entry (Cells n) exit → Wrote h entry n exit
-unfolding calls.reconstruction countOf
+unfolding calls.reconstruction
 call-wrote h entry n exit p = go (reconstruction h (length entry)) refl
   where
     go : (o : Outcome (List ℤ)) → reconstruction h (length entry) ≡ o → Wrote h entry n exit

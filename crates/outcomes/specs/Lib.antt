@@ -1,3 +1,5 @@
 pub mod Promised
-pub mod WrongReconstructors
+pub mod TwoCallsAgree
+pub mod RefusedCallsChangeNothing
 pub mod AccountsCloseOverTheCells
+pub mod WrongReconstructors

@@ -23,7 +23,7 @@ use Rattle.rules.specs.declared.InternalSequence.{InternalSequence}
 use Rattle.rules.specs.declared.Refusal.{Refusal}
 use Rattle.reconstruct.specs.declared.Reconstructed.{Reconstructed}
 use Rattle.reconstruct.specs.declared.Reconstructed.the-variants.{Cells, Refused}
-use Rattle.outcomes.specs.Promised.{Promised}
+use Rattle.outcomes.specs.Promised.{Promised, countOf}
 use Rattle.reconstruct.specs.Answers.{reconstructedOf}
 use Rattle.accounts.specs.ValidHour.{valid-balances}
 use Rattle.balance.specs.Balance.{Balances, cells-balance}
@@ -37,11 +37,7 @@ Reconstructor = Hour → List ℤ → Reconstructed × List ℤ
 abbrev pub Meets : Reconstructor → Type 0
 Meets f = (h : Hour) (entry : List ℤ) → Promised h entry (f h entry .0) (f h entry .1)
 
--- of an answer and of cells, what tells two apart
-isCells : Reconstructed → ℕ
-isCells (Cells n) = 1
-isCells (Refused r) = 0
-
+-- of cells, what tells two lists apart
 sizeOf : ℤ → ℕ
 sizeOf (pos n) = n
 sizeOf (negsuc n) = n
@@ -114,11 +110,11 @@ computed = record { five = refl; six = refl; whole = refl; first = refl; given =
 -- The four.
 
 pub one-that-only-refuses : (f : Reconstructor) → ((h : Hour) (entry : List ℤ) → (r : Refusal) × (f h entry .0 ≡ Refused r)) → Meets f → ⊥
-unfolding cellsOfOpen isCells
+unfolding cellsOfOpen
 one-that-only-refuses f g m =
     let a = met f m fiveMwh (cellsOfOpen 0) (cellsOfOpen 5) (computed .five) in
     let b = g fiveMwh (cellsOfOpen 0) in
-    let z : _≡_ {A = ℕ} 0 1 = ap isCells (sym (b .1) ∙ a .0) in
+    let z : _≡_ {A = ℕ} 0 7 = ap countOf (sym (b .1) ∙ a .0) in
     absurd (omega arith)
 
 pub one-with-a-fixed-answer : (f : Reconstructor) → ((h k : Hour) (entry : List ℤ) → f h entry ≡ f k entry) → Meets f → ⊥
