@@ -1,5 +1,5 @@
-// For tests and timing from C: a deck's hour reconstructed into lent cells by either rule, also from a record that is spoiled in one field.
-// An answer is the number of cells, or a refusal's number times 65,536 and its place.
+// For tests from C: a deck's hour reconstructed into lent cells by either rule and written anew as a deck, also from a record that is spoiled in one field.
+// An answer is the number of cells or bytes, or a refusal's number times 65,536 and its place.
 use hour::Verdict;
 use reconstruct::Reconstructed;
 use rules::Basis;
@@ -13,6 +13,7 @@ use rules::Plant;
 use rules::Refusal;
 use rules::Source;
 use rules::Unit;
+use writer::Written;
 ghost use Prim.Native.Nat.{_<_};
 
 fn refusal_code(r: Refusal) -> u64 {
@@ -40,6 +41,24 @@ pub extern "C" fn trial_cells(deck: &[u8], by_price: bool, out: &mut [i64]) -> u
     let h = x.hour;
     match v {
         Verdict::Accepted => answered(h, out, by_price),
+        Verdict::Refused(r) => refusal_code(r),
+    }
+}
+
+fn written(h: Hour, out: &mut [u8]) -> u64 {
+    match writer::write(h, out) {
+        Written::Bytes(n) => n as u64,
+        Written::Refused(r) => refusal_code(r),
+    }
+}
+
+#[no_mangle]
+pub extern "C" fn trial_written(deck: &[u8], out: &mut [u8]) -> u64 {
+    let x = deck::read(deck);
+    let v = x.verdict;
+    let h = x.hour;
+    match v {
+        Verdict::Accepted => written(h, out),
         Verdict::Refused(r) => refusal_code(r),
     }
 }
@@ -275,4 +294,15 @@ pub extern "C" fn trial_spoiled(
 ) -> u64 {
     let x = deck::read(deck);
     answered(spoiled(x.hour, field, at % 32), out, by_price)
+}
+
+#[no_mangle]
+pub extern "C" fn trial_spoiled_written(
+    deck: &[u8],
+    field: usize,
+    at: usize,
+    out: &mut [u8],
+) -> u64 {
+    let x = deck::read(deck);
+    written(spoiled(x.hour, field, at % 32), out)
 }
