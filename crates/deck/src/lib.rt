@@ -495,7 +495,7 @@ pub fn check_deck(s: &[u8]) -> Verdict
     x.verdict
 }
 
-fn part_at<'a>(s: &'a [u8], p: Place) -> &'a [u8]
+pub fn part_at<'a>(s: &'a [u8], p: Place) -> &'a [u8]
     requires { ⌜ (p .from ≤ p .upto) × (p .upto ≤ length (now s)) ⌝ }
     ensures { λ r. ⌜ now r ≡ bytesOf (now (s .entry)) p ⌝ }
 {

@@ -353,7 +353,7 @@ fn generation_of(p: Plant) -> u32
     }
 }
 
-fn sum_generated(h: Hour) -> u64
+pub fn sum_generated(h: Hour) -> u64
     requires { ⌜ h .nsources ≤ 32 ⌝ }
     ensures { λ r. ⌜ (r ≡ generated h) × (r ≤ 137438953472) ⌝ }
 {
@@ -369,7 +369,7 @@ fn sum_generated(h: Hour) -> u64
     sum
 }
 
-fn sum_delivered(h: Hour) -> u64
+pub fn sum_delivered(h: Hour) -> u64
     requires { ⌜ h .ndeliveries ≤ 32 ⌝ }
     ensures { λ r. ⌜ (r ≡ delivered h) × (r ≤ 137438953472) ⌝ }
 {

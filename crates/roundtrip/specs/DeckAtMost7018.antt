@@ -55,7 +55,7 @@ digits-in-most (suc f) v w h = go (ltb v 10) refl (ltb w 10) refl (digits-in-mos
     go false pe true qe ih = absurd (omega (arith, ltb-false v 10 pe, ltb-true w 10 qe))
     go false pe false qe ih = omega (arith, length-append (digitsIn f (v / 10)) ((48 + v % 10) ∷ []), length-append (digitsIn f (w / 10)) ((48 + w % 10) ∷ []))
 
-digits-most : (v w : ℕ) → v ≤ w → length (digits v) ≤ length (digits w)
+pub digits-most : (v w : ℕ) → v ≤ w → length (digits v) ≤ length (digits w)
 unfolding fields.digits
 digits-most v w h = digits-in-most 20 v w h
 
@@ -63,7 +63,7 @@ digits-some : (v : ℕ) → 1 ≤ length (digits v)
 unfolding fields.digits
 digits-some v = digits-in-some 19 v
 
-escape-most : (cs : Chars) → length (escape cs) ≤ 2 * length cs
+pub escape-most : (cs : Chars) → length (escape cs) ≤ 2 * length cs
 unfolding fields.escape
 escape-most [] = omega arith
 escape-most (c ∷ cs) = go (isEscaped c) (escape-most cs)

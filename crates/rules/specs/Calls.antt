@@ -11,6 +11,7 @@ use Rattle.rules.specs.Fields.{escape}
 use Rattle.rules.specs.Hour.{cellCount, answer}
 use Rattle.rules.specs.Record.{chars, sourceAt, deliveryAt}
 use Rattle.rules.specs.Reading.{reading}
+use Rattle.rules.specs.Report.{report}
 use Rattle.rules.specs.Writing.{deckText, valid}
 use Rattle.rules.specs.declared.Hour.{Hour}
 use Rattle.rules.specs.declared.Refusal.the-variants.{Short, NoDeck}
@@ -28,6 +29,12 @@ reconstruction h size =
     refuse (not (valid h)) NoDeck
     (refuse (ltb size (cellCount h)) Short
     (answer h))
+
+-- the report of a deck, into a buffer of so many bytes
+unfoldable pub reporting : List ℕ → ℕ → Outcome (List ℕ)
+reporting s size =
+    refuse (ltb size (length (report s))) Short
+    (accepted (report s))
 
 -- "A refused call changes no lent byte or number. An accepted one changes just the cells of the hour's pairs and open lines,
 -- or the deck's bytes; the rest stays."

@@ -1,0 +1,7 @@
+pub mod Lines
+pub mod Amounts
+pub mod Rows
+pub mod HourReport
+pub mod HourRows
+pub mod ReportAtMost131072
+pub mod Printing
