@@ -10,7 +10,7 @@ use Rattle.rules.specs.Report.{ReportLine, end, headerLine, pairLine, openLine,
 use Rattle.rules.specs.declared.Hour.{Hour}
 use Rattle.ink.specs.Inked as inked
 use Rattle.ink.specs.Inked.{Text, upTo}
-use Rattle.printout.specs.Lines.{printed}
+use Rattle.sheet.specs.Lines.{printed}
 use Rattle.printout.specs.Rows.{upTo-same}
 
 -- Lines before any rest.

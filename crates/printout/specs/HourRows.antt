@@ -28,7 +28,7 @@ use Rattle.accounts.specs.ValidHour.{valid-balances, valid-small}
 use Rattle.deck.specs.Answers.{Scanned}
 use Rattle.deck.specs.declared.ScannedDeck.{ScannedDeck}
 use Rattle.ink.specs.Inked.{Text, Room, Inked, Front, inked-place, inked-first, upTo, front-upTo}
-use Rattle.printout.specs.Lines.{pairText, openText, printed, pair-line, open-line}
+use Rattle.sheet.specs.Lines.{pairText, openText, printed, pair-line, open-line}
 use Rattle.printout.specs.Rows.{Held, SmallFirst, partAt, pairAt, rowAt, openAt, front-row, front-opens, row-within, upTo-same}
 use Rattle.printout.specs.HourReport.{pairsText, opensText, hourText, hour-lines}
 

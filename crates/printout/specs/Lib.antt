@@ -1,5 +1,3 @@
-pub mod Lines
-pub mod Amounts
 pub mod Rows
 pub mod HourReport
 pub mod HourRows

@@ -28,7 +28,7 @@ use Rattle.reconstruct.specs.Answers.{reconstructedOf}
 use Rattle.reconstruct.specs.WholeAnswer.{count-few}
 use Rattle.reconstruct.specs.declared.Reconstructed.the-variants.{Cells, Refused as Met}
 use Rattle.ink.specs.Inked.{Room, Inked, inked-first}
-use Rattle.printout.specs.Lines.{printed}
+use Rattle.sheet.specs.Lines.{printed}
 use Rattle.printout.specs.HourRows.{Answered}
 use Rattle.printout.specs.declared.Printed.{Printed}
 use Rattle.printout.specs.declared.Printed.the-variants.{Bytes, Short}

@@ -42,8 +42,8 @@ use Rattle.balance.specs.NumbersBelow1000.{numbers-below}
 use Rattle.accounts.specs.ValidHour.{valid-sequences}
 use Rattle.ink.specs.Inked as inked
 use Rattle.ink.specs.Inked.{Text, upTo}
-use Rattle.printout.specs.Lines.{printed, hour-line, pair-line, open-line, refusal-line}
-use Rattle.printout.specs.Amounts.{sum-most}
+use Rattle.sheet.specs.Lines.{printed, hour-line, pair-line, open-line, refusal-line}
+use Rattle.sheet.specs.Amounts.{sum-most}
 use Rattle.printout.specs.HourReport.{pairsText, opensText, hour-lines}
 use Rattle.printout.specs.HourRows.{small-cells}
 

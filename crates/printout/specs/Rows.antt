@@ -17,8 +17,8 @@ use Rattle.deck.specs.Answers.{nowhere, bytesOf}
 use Rattle.deck.specs.declared.Place.{Place}
 use Rattle.ink.specs.Inked as inked
 use Rattle.ink.specs.Inked.{Text, Front, upTo, front-upTo}
-use Rattle.printout.specs.Lines.{pairText, openText, front-pair, front-open}
-use Rattle.printout.specs.Amounts.{held, pair-held, open-held, sum-fits}
+use Rattle.sheet.specs.Lines.{pairText, openText, front-pair, front-open}
+use Rattle.sheet.specs.Amounts.{held, pair-held, open-held, same-sum, sum-fits}
 
 -- each place lies in the deck
 pub record Held (deck : List ℕ) (ps : List Place) : Type 0 where
@@ -95,8 +95,7 @@ module _ (deck : List ℕ) (sources : List Place) (cells : List ℤ) (base i : �
       → pairText delivery number part (held (cellAt cells (base + i * 4))) (held (cellAt cells (base + i * 4 + 1))) (held cost) rest
       ≡ pairAt deck sources cells base delivery number i rest
   pair-at-held delivery number cost a b c d k l s rest =
-      let sum : cost ≡ cellAt cells (base + i * 4 + 2) +ℤ cellAt cells (base + i * 4 + 3) =
-      s ∙ ap (λ (z : ℤ). z +ℤ held (cellAt cells (base + i * 4 + 3))) (toZ-ofZ c) ∙ ap (λ (z : ℤ). cellAt cells (base + i * 4 + 2) +ℤ z) (toZ-ofZ d) in
+      let sum : cost ≡ cellAt cells (base + i * 4 + 2) +ℤ cellAt cells (base + i * 4 + 3) = s ∙ same-sum (cellAt cells (base + i * 4 + 2)) (cellAt cells (base + i * 4 + 3)) c d in
       let f : SFits w64 cost = rw sum (sum-fits (cellAt cells (base + i * 4 + 2)) (cellAt cells (base + i * 4 + 3)) k l) in
       pair-held delivery number part a b f rest
       ∙ ap (λ (w : List ℕ). pairText delivery number w (cellAt cells (base + i * 4)) (cellAt cells (base + i * 4 + 1)) cost rest) e

@@ -1,17 +1,12 @@
 // The report of a deck as text, line by line into a buffer of the writer's own, and over to a lent one where it fits.
-// Contracts cite Room and Inked of ink, and the texts of specs/Lines, made of the lines in rules' Report.
+// Contracts cite Room and Inked of ink, the rows of specs/Rows, and report, reporting and leaves of rules.
 ghost use mathlib.Core.Path.{_≡_};
 ghost use mathlib.Core.List.{[], _++_};
-ghost use Prim.Native.Nat.{_+_, _-_, _*_, _≤_};
+ghost use Prim.Native.Nat.{_+_, _*_, _≤_};
 ghost use lib.ListN.{length, drop};
-ghost use lib.IntN.{natAbs, _+ℤ_};
-ghost use Rattle.rules.specs.Refusals.{numberOf, placeOf};
-ghost use Rattle.rules.specs.Report.{hour, end, refusal, report};
+ghost use Rattle.rules.specs.Report.{report};
 ghost use Rattle.rules.specs.Calls.{reporting, leaves};
-ghost use Rattle.balance.specs.CellsFit.{SmallCell};
 ghost use Rattle.ink.specs.Inked.{Room, Inked, upTo};
-ghost use Rattle.ink.specs.Texts.{spacedText};
-ghost use Rattle.printout.specs.Lines.{partText, signedSpaced, amountsText, pairText, openText, printed};
 ghost use Rattle.printout.specs.Rows.{Held, SmallFirst, rowText, rowAt, openAt};
 ghost use Rattle.printout.specs.HourRows.{Answered};
 ghost use Rattle.printout.specs.Printing.{printedOf};
@@ -20,131 +15,6 @@ use deck::ScannedDeck;
 use hour::Verdict;
 use reconstruct::Reconstructed;
 use rules::InternalSequence;
-use rules::Refusal;
-
-// A signed number without its sign.
-fn size_of(v: i64) -> u64
-    ensures { λ r. ⌜ r ≡ natAbs v ⌝ }
-{
-    if v < 0 {
-        return (0 - (v + 1)) as u64 + 1;
-    }
-    v as u64
-}
-
-// A space and a signed number.
-fn put_signed(buf: &mut [u8], at: usize, v: i64) -> usize
-    requires { ⌜ Room (now buf) at (signedSpaced v []) ⌝ }
-    ensures { λ r. ⌜ Inked (now (buf .entry)) at (now (buf .exit)) r (signedSpaced v) ⌝ }
-{
-    if v < 0 {
-        let p = ink::put_two(buf, at, 32, 45);
-        return ink::put_number(buf, p, size_of(v));
-    }
-    let p = ink::put_byte(buf, at, 32);
-    ink::put_number(buf, p, size_of(v))
-}
-
-// A space and a number.
-fn put_spaced(buf: &mut [u8], at: usize, v: u64) -> usize
-    requires { ⌜ Room (now buf) at (spacedText v []) ⌝ }
-    ensures { λ r. ⌜ Inked (now (buf .entry)) at (now (buf .exit)) r (spacedText v) ⌝ }
-{
-    let p = ink::put_byte(buf, at, 32);
-    ink::put_number(buf, p, v)
-}
-
-// A label's own bytes, escapes unread, between quotes.
-fn put_part(buf: &mut [u8], at: usize, part: &[u8]) -> usize
-    requires { ⌜ Room (now buf) at (partText (now part) []) ⌝ }
-    ensures { λ r. ⌜ Inked (now (buf .entry)) at (now (buf .exit)) r (partText (now (part .entry))) ⌝ }
-{
-    let p = ink::put_byte(buf, at, 34);
-    let q = ink::put_bytes(buf, p, part);
-    ink::put_byte(buf, q, 34)
-}
-
-fn put_amounts(buf: &mut [u8], at: usize, direct: i64, incremental: i64, cost: i64) -> usize
-    requires { ⌜ Room (now buf) at (amountsText direct incremental cost []) ⌝ }
-    ensures { λ r. ⌜ Inked (now (buf .entry)) at (now (buf .exit)) r (amountsText direct incremental cost) ⌝ }
-{
-    let p = put_signed(buf, at, direct);
-    let q = put_signed(buf, p, incremental);
-    let r = put_signed(buf, q, cost);
-    ink::put_byte(buf, r, 10)
-}
-
-fn put_pair(
-    buf: &mut [u8],
-    at: usize,
-    delivery: &[u8],
-    number: u32,
-    source: &[u8],
-    direct: i64,
-    incremental: i64,
-    cost: i64,
-) -> usize
-    requires { ⌜ Room (now buf) at (pairText (now delivery) number (now source) direct incremental cost []) ⌝ }
-    ensures { λ r. ⌜ Inked (now (buf .entry)) at (now (buf .exit)) r (pairText (now (delivery .entry)) number (now (source .entry)) direct incremental cost) ⌝ }
-{
-    let p = put_part(buf, at, delivery);
-    let q = ink::put_spaced(buf, p, number);
-    let r = ink::put_byte(buf, q, 32);
-    let s = put_part(buf, r, source);
-    put_amounts(buf, s, direct, incremental, cost)
-}
-
-fn put_open(buf: &mut [u8], at: usize, source: &[u8], mwh: i64, cost: i64) -> usize
-    requires { ⌜ Room (now buf) at (openText (now source) mwh cost []) ⌝ }
-    ensures { λ r. ⌜ Inked (now (buf .entry)) at (now (buf .exit)) r (openText (now (source .entry)) mwh cost) ⌝ }
-{
-    let p = ink::put_bytes(buf, at, b"internal ");
-    let q = put_part(buf, p, source);
-    let r = put_signed(buf, q, mwh);
-    let s = put_signed(buf, r, cost);
-    ink::put_byte(buf, s, 10)
-}
-
-// The header; the internal load is what is left of the generation.
-fn put_header(buf: &mut [u8], at: usize, generation: u64, losses: u64, deliveries: u64) -> usize
-    requires { ⌜ (losses + deliveries ≤ generation) × Room (now buf) at (printed (hour generation losses deliveries (generation - (losses + deliveries))) []) ⌝ }
-    ensures { λ r. ⌜ Inked (now (buf .entry)) at (now (buf .exit)) r (printed (hour generation losses deliveries (generation - (losses + deliveries)))) ⌝ }
-{
-    let load = generation - (losses + deliveries);
-    let p = ink::put_bytes(buf, at, b"hour");
-    let q = put_spaced(buf, p, generation);
-    let r = put_spaced(buf, q, losses);
-    let s = put_spaced(buf, r, deliveries);
-    let t = put_spaced(buf, s, load);
-    ink::put_byte(buf, t, 10)
-}
-
-fn put_end(buf: &mut [u8], at: usize) -> usize
-    requires { ⌜ Room (now buf) at (printed end []) ⌝ }
-    ensures { λ r. ⌜ Inked (now (buf .entry)) at (now (buf .exit)) r (printed end) ⌝ }
-{
-    ink::put_bytes(buf, at, b"end\n")
-}
-
-fn put_refusal(buf: &mut [u8], at: usize, x: Refusal) -> usize
-    requires { ⌜ Room (now buf) at (printed (refusal (numberOf x) (placeOf x)) []) ⌝ }
-    ensures { λ r. ⌜ Inked (now (buf .entry)) at (now (buf .exit)) r (printed (refusal (numberOf x) (placeOf x))) ⌝ }
-{
-    let number = codes::number_of(x);
-    let place = codes::place_of(x) as u64;
-    let p = ink::put_bytes(buf, at, b"refused");
-    let q = put_spaced(buf, p, number);
-    let r = put_spaced(buf, q, place);
-    ink::put_byte(buf, r, 10)
-}
-
-// A pair's costs in one sum.
-fn both_costs(direct: i64, incremental: i64) -> i64
-    requires { ⌜ SmallCell direct × SmallCell incremental ⌝ }
-    ensures { λ r. ⌜ r ≡ direct +ℤ incremental ⌝ }
-{
-    direct + incremental
-}
 
 // A delivery with each source: the sources' labels at their places in the deck, the pairs' cells from a place on.
 fn put_row(
@@ -169,8 +39,8 @@ fn put_row(
         let k = base + i * 4;
         let direct = cells[k];
         let incremental = cells[k + 1];
-        let cost = both_costs(cells[k + 2], cells[k + 3]);
-        p = put_pair(buf, p, delivery, number, source, direct, incremental, cost);
+        let cost = sheet::both_costs(cells[k + 2], cells[k + 3]);
+        p = sheet::put_pair(buf, p, delivery, number, source, direct, incremental, cost);
         i += 1;
     }
     p
@@ -224,7 +94,7 @@ fn put_opens(
         let k = base + i * 2;
         let mwh = cells[k];
         let cost = cells[k + 1];
-        p = put_open(buf, p, source, mwh, cost);
+        p = sheet::put_open(buf, p, source, mwh, cost);
         i += 1;
     }
     p
@@ -249,10 +119,10 @@ pub fn put_hour(
     let m = h.ndeliveries;
     let generation = hour::sum_generated(h);
     let delivered = hour::sum_delivered(h);
-    let p = put_header(buf, 0, generation, h.losses as u64, delivered);
+    let p = sheet::put_header(buf, 0, generation, h.losses as u64, delivered);
     let q = put_rows(buf, p, deck, sources, n, deliveries, m, numbers, cells);
     let r = put_opens(buf, q, deck, sources, n, cells, m * (n * 4));
-    put_end(buf, r)
+    sheet::put_end(buf, r)
 }
 
 // The report of a deck, from the buffer's start on; gives its length.
@@ -264,13 +134,13 @@ fn put_report(buf: &mut [u8], deck: &[u8]) -> usize
     let x = deck::scan(deck);
     let verdict = x.verdict;
     if let Verdict::Refused(r) = verdict {
-        return put_refusal(buf, 0, r);
+        return sheet::put_refusal(buf, 0, r);
     }
     let h = x.hour;
     let mut cells = [0i64; 4160];
     let end = reconstruct::price(h, &mut cells);
     if let Reconstructed::Refused(r) = end {
-        return put_refusal(buf, 0, r);
+        return sheet::put_refusal(buf, 0, r);
     }
     let deliveries = h.deliveries;
     let numbers = sequence::numbers(deliveries, h.ndeliveries);

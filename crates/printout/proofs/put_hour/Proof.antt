@@ -4,7 +4,7 @@ use mathlib.Core.List.{[]}
 use native.Mathlib.Omega.{arith}
 use Rattle.rules.specs.Report.{headerLine, report}
 use Rattle.ink.specs.Inked.{Room, Inked, inked-as, inked-then, room-as, room-first, room-after}
-use Rattle.printout.specs.Lines.{printed, front-printed}
+use Rattle.sheet.specs.Lines.{printed, front-printed}
 use Rattle.printout.specs.HourRows.{given, enough, small, base-fits, sources-held, deliveries-held, front-rows, front-left, header-same, writtenText, report-is, whole-room, whole-written}
 use Rattle.printout.proofs.put_hour.Statement.{statement}
 use Rattle.printout.proofs.put_hour.Tie as tie

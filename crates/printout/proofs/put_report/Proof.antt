@@ -11,7 +11,7 @@ use Rattle.rules.specs.Report.{refusal, report}
 use Rattle.rules.specs.Writing.{valid}
 use Rattle.roundtrip.specs.DeckRoundTrip.{accepted-is-valid}
 use Rattle.reconstruct.specs.WholeAnswer.{placeable}
-use Rattle.printout.specs.Lines.{printed}
+use Rattle.sheet.specs.Lines.{printed}
 use Rattle.printout.specs.HourRows.{whole-room, whole-written}
 use Rattle.printout.specs.Printing.{scanned-refused, scanned-accepted, run-refused, run-done, run-answered, refused-report, unmet-report}
 use Rattle.printout.proofs.put_report.Statement.{statement}

@@ -15,7 +15,7 @@ use mir.Val.{Fits, SFits, toZ, ofZ}
 use Rattle.laws.specs.Choices.{true-not-false}
 use Rattle.balance.specs.CellsFit.{SmallCell}
 use Rattle.ink.specs.Texts.{numberText, spacedText}
-use Rattle.printout.specs.Lines.{partText, signedSpaced, amountsText, pairText, openText}
+use Rattle.sheet.specs.Lines.{partText, signedSpaced, amountsText, pairText, openText}
 
 -- a signed number as the machine holds it
 abbrev pub held : ℤ → ℤ
@@ -113,3 +113,14 @@ fits-below (negsuc n) h = record { sfits = omega arith }
 
 pub sum-fits : (x y : ℤ) → SmallCell x → SmallCell y → SFits w64 (x +ℤ y)
 sum-fits x y h k = fits-below (x +ℤ y) (sum-most x y h k)
+
+-- the sum as the machine makes it
+module _ (x y : ℤ) (a : SFits w64 x) (b : SFits w64 y) where
+  pub same-sum : held x +ℤ held y ≡ x +ℤ y
+  same-sum = ap (λ (z : ℤ). z +ℤ held y) (toZ-ofZ a) ∙ ap (λ (z : ℤ). x +ℤ z) (toZ-ofZ b)
+
+  pub held-fits : SmallCell x → SmallCell y → SFits w64 (held x +ℤ held y)
+  held-fits h k = rw same-sum (sum-fits x y h k)
+
+  pub held-sum : SmallCell x → SmallCell y → held (held x +ℤ held y) ≡ x +ℤ y
+  held-sum h k = toZ-ofZ (held-fits h k) ∙ same-sum

@@ -1,12 +1,12 @@
--- `printout::put_refusal` meets its contract. The word, the number, the place and LF.
+-- `sheet::put_refusal` meets its contract. The word, the number, the place and LF.
 use borrow.Author.Needs.{needs}
 use mathlib.Core.List.{[]}
 use Rattle.rules.specs.Words.{text}
 use Rattle.ink.specs.Inked.{inked-as, inked-then, room-as, room-first, room-after, front-list}
 use Rattle.ink.specs.Texts.{front-spaced}
-use Rattle.printout.specs.Lines.{refusal-of}
-use Rattle.printout.proofs.put_refusal.Statement.{statement}
-use Rattle.printout.proofs.put_refusal.Tie as tie
+use Rattle.sheet.specs.Lines.{refusal-of}
+use Rattle.sheet.proofs.put_refusal.Statement.{statement}
+use Rattle.sheet.proofs.put_refusal.Tie as tie
 
 number-of-requires : tie.Need-number-of-requires
 number-of-requires c κs = search needs

@@ -1,11 +1,11 @@
--- `printout::put_amounts` meets its contract. The three amounts and LF.
+-- `sheet::put_amounts` meets its contract. The three amounts and LF.
 use borrow.Author.Needs.{needs}
 use mathlib.Core.List.{[]}
 use Rattle.ink.specs.Inked.{inked-as, inked-then, room-as, room-first, room-after}
-use Rattle.printout.specs.Lines.{front-signed}
-use Rattle.printout.specs.Amounts.{held, amounts-held}
-use Rattle.printout.proofs.put_amounts.Statement.{statement}
-use Rattle.printout.proofs.put_amounts.Tie as tie
+use Rattle.sheet.specs.Lines.{front-signed}
+use Rattle.sheet.specs.Amounts.{held, amounts-held}
+use Rattle.sheet.proofs.put_amounts.Statement.{statement}
+use Rattle.sheet.proofs.put_amounts.Tie as tie
 
 put-signed-requires : tie.Need-put-signed-requires
 put-signed-requires c κs =

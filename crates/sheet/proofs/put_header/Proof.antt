@@ -1,13 +1,13 @@
--- `printout::put_header` meets its contract. The word, the four numbers and LF.
+-- `sheet::put_header` meets its contract. The word, the four numbers and LF.
 use borrow.Author.Needs.{needs}
 use mathlib.Core.List.{[]}
 use Prim.Native.Nat.{_+_, _-_}
 use Rattle.rules.specs.Words.{text}
 use Rattle.ink.specs.Inked.{inked-as, inked-then, room-as, room-first, room-after, front-list}
 use Rattle.ink.specs.Texts.{front-spaced}
-use Rattle.printout.specs.Lines.{hour-line}
-use Rattle.printout.proofs.put_header.Statement.{statement}
-use Rattle.printout.proofs.put_header.Tie as tie
+use Rattle.sheet.specs.Lines.{hour-line}
+use Rattle.sheet.proofs.put_header.Statement.{statement}
+use Rattle.sheet.proofs.put_header.Tie as tie
 
 add-load : tie.Need-add-load
 add-load c = search needs

@@ -1,12 +1,12 @@
--- `printout::put_pair` meets its contract. The labels, the number between them, and the amounts.
+-- `sheet::put_pair` meets its contract. The labels, the number between them, and the amounts.
 use borrow.Author.Needs.{needs}
 use mathlib.Core.List.{[]}
 use Rattle.ink.specs.Inked.{inked-as, inked-then, room-as, room-first, room-after, front-byte}
 use Rattle.ink.specs.Texts.{front-spaced}
-use Rattle.printout.specs.Lines.{front-part}
-use Rattle.printout.specs.Amounts.{pair-held}
-use Rattle.printout.proofs.put_pair.Statement.{statement}
-use Rattle.printout.proofs.put_pair.Tie as tie
+use Rattle.sheet.specs.Lines.{front-part}
+use Rattle.sheet.specs.Amounts.{pair-held}
+use Rattle.sheet.proofs.put_pair.Statement.{statement}
+use Rattle.sheet.proofs.put_pair.Tie as tie
 
 put-part-requires : tie.Need-put-part-requires
 put-part-requires c κs =

@@ -1,8 +1,8 @@
--- `printout::put_spaced` meets its contract. A space, then the number.
+-- `sheet::put_spaced` meets its contract. A space, then the number.
 use borrow.Author.Needs.{needs}
 use Rattle.ink.specs.Inked.{inked-then, room-first, room-after, front-byte}
-use Rattle.printout.proofs.put_spaced.Statement.{statement}
-use Rattle.printout.proofs.put_spaced.Tie as tie
+use Rattle.sheet.proofs.put_spaced.Statement.{statement}
+use Rattle.sheet.proofs.put_spaced.Tie as tie
 
 put-byte-requires : tie.Need-put-byte-requires
 put-byte-requires c κs =

@@ -1,10 +1,10 @@
--- `printout::put_end` meets its contract: the bytes are the line and its LF.
+-- `sheet::put_end` meets its contract: the bytes are the line and its LF.
 use borrow.Author.Needs.{needs}
 use mathlib.Core.List.{[]}
 use Rattle.ink.specs.Inked.{inked-as, room-as}
-use Rattle.printout.specs.Lines.{end-line}
-use Rattle.printout.proofs.put_end.Statement.{statement}
-use Rattle.printout.proofs.put_end.Tie as tie
+use Rattle.sheet.specs.Lines.{end-line}
+use Rattle.sheet.proofs.put_end.Statement.{statement}
+use Rattle.sheet.proofs.put_end.Tie as tie
 
 slice-aggregate-put-bytes : tie.Need-slice-aggregate-put-bytes
 slice-aggregate-put-bytes c = search needs

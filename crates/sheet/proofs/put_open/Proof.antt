@@ -1,12 +1,12 @@
--- `printout::put_open` meets its contract. The word, the label, the two numbers and LF.
+-- `sheet::put_open` meets its contract. The word, the label, the two numbers and LF.
 use borrow.Author.Needs.{needs}
 use mathlib.Core.List.{[]}
 use Rattle.rules.specs.Words.{text}
 use Rattle.ink.specs.Inked.{inked-as, inked-then, room-as, room-first, room-after, front-list}
-use Rattle.printout.specs.Lines.{front-part, front-signed}
-use Rattle.printout.specs.Amounts.{held, open-held}
-use Rattle.printout.proofs.put_open.Statement.{statement}
-use Rattle.printout.proofs.put_open.Tie as tie
+use Rattle.sheet.specs.Lines.{front-part, front-signed}
+use Rattle.sheet.specs.Amounts.{held, open-held}
+use Rattle.sheet.proofs.put_open.Statement.{statement}
+use Rattle.sheet.proofs.put_open.Tie as tie
 
 slice-aggregate-put-bytes : tie.Need-slice-aggregate-put-bytes
 slice-aggregate-put-bytes c = search needs

@@ -1,10 +1,10 @@
--- `printout::put_part` meets its contract. A quote, the bytes, a quote.
+-- `sheet::put_part` meets its contract. A quote, the bytes, a quote.
 use borrow.Author.Needs.{needs}
 use mathlib.Core.Path.{sym}
 use mathlib.Core.List.{append-nil}
 use Rattle.ink.specs.Inked.{inked-then, room-as, room-first, room-after, front-byte, front-list}
-use Rattle.printout.proofs.put_part.Statement.{statement}
-use Rattle.printout.proofs.put_part.Tie as tie
+use Rattle.sheet.proofs.put_part.Statement.{statement}
+use Rattle.sheet.proofs.put_part.Tie as tie
 
 put-byte-requires : tie.Need-put-byte-requires
 put-byte-requires c κs =

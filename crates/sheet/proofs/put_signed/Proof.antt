@@ -1,12 +1,12 @@
--- `printout::put_signed` meets its contract. A minus where the number is below 0, and the digits of its size.
+-- `sheet::put_signed` meets its contract. A minus where the number is below 0, and the digits of its size.
 use borrow.Author.Needs.{needs}
 use mathlib.Core.Path.{refl}
 use mathlib.Core.List.{[], _∷_}
 use lib.IntN.{natAbs}
 use Rattle.ink.specs.Inked.{inked-as, inked-then, room-as, room-first, room-after, front-byte, front-list}
-use Rattle.printout.specs.Amounts.{held, minus-text, plus-text}
-use Rattle.printout.proofs.put_signed.Statement.{statement}
-use Rattle.printout.proofs.put_signed.Tie as tie
+use Rattle.sheet.specs.Amounts.{held, minus-text, plus-text}
+use Rattle.sheet.proofs.put_signed.Statement.{statement}
+use Rattle.sheet.proofs.put_signed.Tie as tie
 
 put-two-requires : tie.Need-put-two-requires
 put-two-requires c κs =

@@ -1,10 +1,10 @@
--- `printout::size_of` meets its contract; a number below 0 is turned by way of the one above it.
+-- `sheet::size_of` meets its contract; a number below 0 is turned by way of the one above it.
 use mathlib.Core.Path.{ap}
 use lib.IntN.{natAbs}
 use mir.Facts.{toZ-ofZ}
-use Rattle.printout.specs.Amounts.{below-turned, size-plain}
-use Rattle.printout.proofs.size_of.Statement.{statement}
-use Rattle.printout.proofs.size_of.Tie as tie
+use Rattle.sheet.specs.Amounts.{below-turned, size-plain}
+use Rattle.sheet.proofs.size_of.Statement.{statement}
+use Rattle.sheet.proofs.size_of.Tie as tie
 
 add-result : tie.Need-add-result
 add-result c = below-turned _ (c .before .fits .v) (c .if1 .taken) .up
