@@ -1,3 +1,4 @@
 -- Lemmas on plain values for the proofs of this crate.
 mod Lead
+mod Levels
 mod Taking

@@ -2,11 +2,11 @@
 use mathlib.Core.Bool.{Bool, true, false}
 use mathlib.Core.List.{List}
 use mathlib.Core.Logic.{_≢_}
-use mathlib.Core.Path.{_≡_, refl, sym, ap, _∙_}
+use mathlib.Core.Path.{_≡_, sym, ap, _∙_}
 use Prim.Native.Nat.{ℕ, _+_, _-_, _^_, _≤_, _<_}
 use native.Mathlib.Numerals.{add-one}
 use native.Mathlib.Omega.{arith}
-use lib.ListN.{length, set, replicate, length-set}
+use lib.ListN.{length, set, length-set}
 use lib.Seq.{getD-set-same, getD-set-other}
 use Rattle.dispatch.specs.LinesOfPrices.{Lined, priceOf, worth}
 use Rattle.dispatch.specs.Taken.{First, merit, Taken}
@@ -31,17 +31,6 @@ pub record LinesOf (up : Bool) (roomOf : Running → ℕ) (ss : List Running) (o
   pub rooms : (i : ℕ) → i < n → at cap i ≡ roomOf (stateAt ss i)
 
 module _ {up : Bool} {roomOf : Running → ℕ} {ss : List Running} where
-  pub lines-none : LinesOf up roomOf ss (replicate 32 0) (replicate 32 0) (replicate 32 0) (replicate 32 0) (replicate 32 0) 0
-  lines-none = record {
-    long-one = refl;
-    long-step = refl;
-    long-span = refl;
-    long-inv = refl;
-    long-cap = refl;
-    lined = λ i l. absurd (omega arith);
-    rooms = λ i l. absurd (omega arith);
-  }
-
   module _ {one step span inv cap : List ℕ} {n : ℕ} (s : LinesOf up roomOf ss one step span inv cap n) where
     -- one source more
     pub lines-more : {o d w v x : ℕ} → n < 32 → Lined up (price (stateAt ss n .plant)) (level (stateAt ss n)) o d w v x → x ≡ roomOf (stateAt ss n)

@@ -8,7 +8,7 @@ ghost use lib.ListN.{length};
 ghost use Rattle.rules.specs.Words.{sumTo};
 ghost use Rattle.marks.specs.Lines.{at, Falls, Source, Table, Scales};
 ghost use Rattle.dispatch.specs.LinesOfPrices.{Numbers, Lined, linePrice};
-ghost use Rattle.dispatch.specs.Taken.{Sources, Taken, Next, Choice, Block, Above};
+ghost use Rattle.dispatch.specs.Taken.{Sources, Taken, Next, Left, Small, Highest, Turn, Turns, Going, Level, Block, Above};
 
 pub struct Line {
     pub one: u64,
@@ -89,24 +89,39 @@ fn next(one: u64, step: u64, cap: u64, k: u64) -> u64
     if k < cap { one - step * k } else { 0 }
 }
 
-// The source with the best next MWh; n where none has any.
-fn choose(
-    up: bool,
+// The same of each source's next MWh.
+fn find_left(
     one: &[u64; 32],
     step: &[u64; 32],
     cap: &[u64; 32],
     taken: &[u64; 32],
     n: usize,
-) -> usize
+    left: &mut [u64; 32],
+)
     requires { ⌜ Sources (now one) (now step) (now cap) n ⌝ }
-    ensures { λ i. ⌜ Choice up (now (one .entry)) (now (step .entry)) (now (cap .entry)) (now (taken .entry)) n i ⌝ }
+    requires long { ⌜ length (now left) ≡ 32 ⌝ }
+    ensures { λ _. ⌜ Left (now (one .entry)) (now (step .entry)) (now (cap .entry)) (now (taken .entry)) n (now (left .exit)) ⌝ }
+{
+    let mut i = 0;
+    while i < n {
+        let m = next(one[i], step[i], cap[i], taken[i]);
+        left[i] = m;
+        i += 1;
+    }
+}
+
+// The source with the best next MWh; n where none has any.
+fn choose(up: bool, left: &[u64; 32], n: usize) -> usize
+    requires { ⌜ n ≤ 32 ⌝ }
+    requires small { ⌜ Small (now left) n ⌝ }
+    ensures { λ i. ⌜ Highest up (now (left .entry)) n i ⌝ }
 {
     let more: u64 = if up { 0 } else { 1 };
     let mut best = n;
     let mut bar: u64 = 1;
     let mut i = 0;
     while i < n {
-        let m = next(one[i], step[i], cap[i], taken[i]);
+        let m = left[i];
         if bar <= m {
             best = i;
             bar = m + more;
@@ -132,33 +147,46 @@ pub fn plain(
     ensures { λ t. ⌜ Taken up (now (one .entry)) (now (step .entry)) (now (cap .entry)) n total t ⌝ }
 {
     let mut taken: [u64; 32] = [0; 32];
+    let mut left: [u64; 32] = [0; 32];
+    find_left(one, step, cap, &taken, n, &mut left);
     let mut moved: u64 = 0;
     while moved < total {
-        let i = choose(up, one, step, cap, &taken, n);
-        taken[i] += 1;
+        let i = choose(up, &left, n);
+        let k = taken[i] + 1;
+        taken[i] = k;
+        let m = next(one[i], step[i], cap[i], k);
+        left[i] = m;
         moved += 1;
     }
     taken
 }
 
-// What each source has at and above the mark.
+// What each source has at and above the mark, and one more than the merit of its next MWh.
 fn take_above(
     one: &[u64; 32],
     step: &[u64; 32],
     span: &[u64; 32],
     inv: &[u64; 32],
+    cap: &[u64; 32],
     n: usize,
     mark: u64,
     taken: &mut [u64; 32],
+    left: &mut [u64; 32],
 )
-    requires { ⌜ Scales (now step) (now span) (now inv) n ⌝ }
-    requires long { ⌜ length (now taken) ≡ 32 ⌝ }
+    requires { ⌜ Sources (now one) (now step) (now cap) n ⌝ }
+    requires scales { ⌜ Scales (now step) (now span) (now inv) n ⌝ }
+    requires long { ⌜ (length (now taken) ≡ 32) × (length (now left) ≡ 32) ⌝ }
     ensures { λ _. ⌜ Above (now (one .entry)) (now (step .entry)) (now (span .entry)) (now (inv .entry)) n mark (now (taken .entry)) (now (taken .exit)) ⌝ }
+    ensures left { λ _. ⌜ Left (now (one .entry)) (now (step .entry)) (now (cap .entry)) (now (taken .exit)) n (now (left .exit)) ⌝ }
 {
     let mut i = 0;
     while i < n {
-        let k = marks::count(one[i], step[i], span[i], inv[i], mark);
+        let o = one[i];
+        let d = step[i];
+        let k = marks::count(o, d, span[i], inv[i], mark);
+        let m = next(o, d, cap[i], k);
         taken[i] = k;
+        left[i] = m;
         i += 1;
     }
 }
@@ -172,6 +200,79 @@ fn block(step: u64, cap: u64, k: u64, rest: u64) -> u64
         return 1;
     }
     marks::least(rest, cap - k)
+}
+
+// The i-th source in the turn at a tie.
+fn turn(up: bool, n: usize, i: usize) -> usize
+    requires { ⌜ i < n ⌝ }
+    ensures { λ a. ⌜ Turn up n i a ⌝ }
+{
+    if up { n - 1 - i } else { i }
+}
+
+// What the i-th has of the merit m.
+fn take_turn(
+    up: bool,
+    one: &[u64; 32],
+    step: &[u64; 32],
+    cap: &[u64; 32],
+    n: usize,
+    m: u64,
+    total: u64,
+    sum: u64,
+    i: usize,
+    taken: &mut [u64; 32],
+    left: &mut [u64; 32],
+) -> u64
+    requires { ⌜ Sources (now one) (now step) (now cap) n ⌝ }
+    requires turns { ⌜ Turns up (now one) (now step) (now cap) n m total sum i (now taken) (now left) ⌝ }
+    requires more { ⌜ (i < n) × (sum < total) ⌝ }
+    ensures { λ s. ⌜ Turns up (now (one .entry)) (now (step .entry)) (now (cap .entry)) n m total s (i + 1) (now (taken .exit)) (now (left .exit)) ⌝ }
+    ensures most { λ s. ⌜ sum ≤ s ⌝ }
+{
+    let a = turn(up, n, i);
+    if left[a] < m {
+        return sum;
+    }
+    let k = taken[a];
+    let g = block(step[a], cap[a], k, total - sum);
+    taken[a] = k + g;
+    let x = next(one[a], step[a], cap[a], k + g);
+    left[a] = x;
+    sum + g
+}
+
+// Where many MWh are left: all that have the merit m, the best there is, in their turn.
+fn take_level(
+    up: bool,
+    one: &[u64; 32],
+    step: &[u64; 32],
+    cap: &[u64; 32],
+    n: usize,
+    m: u64,
+    total: u64,
+    sum: u64,
+    taken: &mut [u64; 32],
+    left: &mut [u64; 32],
+) -> u64
+    requires { ⌜ Sources (now one) (now step) (now cap) n ⌝ }
+    requires level { ⌜ Level up (now one) (now step) (now cap) n m total sum (now taken) (now left) ⌝ }
+    ensures { λ s. ⌜ Going up (now (one .entry)) (now (step .entry)) (now (cap .entry)) n total s (now (taken .exit)) (now (left .exit)) ⌝ }
+    ensures most { λ s. ⌜ sum ≤ s ⌝ }
+{
+    if total - sum <= 6 {
+        return sum;
+    }
+    let mut s = sum;
+    let mut i = 0;
+    while i < n {
+        if s == total {
+            return s;
+        }
+        s = take_turn(up, one, step, cap, n, m, total, s, i, taken, left);
+        i += 1;
+    }
+    s
 }
 
 // The engine by price: all above a mark at once, and the rest block by block.
@@ -189,16 +290,31 @@ pub fn price(
     requires room { ⌜ total ≤ sumTo (at (now cap)) n ⌝ }
     ensures { λ t. ⌜ Taken up (now (one .entry)) (now (step .entry)) (now (cap .entry)) n total t ⌝ }
 {
-    let m = marks::find_mark(one, step, span, inv, cap, n, total);
+    let p = marks::find_mark(one, step, span, inv, cap, n, total);
     let mut taken: [u64; 32] = [0; 32];
-    take_above(one, step, span, inv, n, m.merit, &mut taken);
-    let mut sum = m.sum;
+    let mut left: [u64; 32] = [0; 32];
+    take_above(one, step, span, inv, cap, n, p.merit, &mut taken, &mut left);
+    let mut sum = p.sum;
     while sum < total {
-        let a = choose(up, one, step, cap, &taken, n);
+        let a = choose(up, &left, n);
+        let m = left[a];
         let k = taken[a];
         let g = block(step[a], cap[a], k, total - sum);
         taken[a] = k + g;
-        sum += g;
+        let x = next(one[a], step[a], cap[a], k + g);
+        left[a] = x;
+        sum = take_level(
+            up,
+            one,
+            step,
+            cap,
+            n,
+            m,
+            total,
+            sum + g,
+            &mut taken,
+            &mut left,
+        );
     }
     taken
 }

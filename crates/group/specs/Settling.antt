@@ -1,10 +1,16 @@
 -- A remainder's outcome as a struct, and the outcome at each test of the ladder and of credit.
+use mathlib.Core.Bool.{true}
 use mathlib.Core.List.{List}
 use mathlib.Core.Path.{_≡_, sym, ap, _∙_}
-use Prim.Native.Nat.{ℕ, _-_, _≤_, _<_}
+use Prim.Native.Nat.{ℕ, _+_, _-_, _≤_, _<_}
 use borrow.Author.Tests.{le-leb, lt-leb}
+use Rattle.dispatch.specs.TakenIsPlain.{LinesOf}
+use Rattle.group.specs.declared.Found.{Found}
+use Rattle.group.specs.declared.Found.the-variants.{By, Last, Refused as No}
 use Rattle.group.specs.declared.Settled.{Settled}
 use Rattle.group.specs.declared.Verdict.the-variants.{Done, Refused}
+use Rattle.ladder.specs.Ways.{wayOf, upOf, byPrice}
+use Rattle.ladder.specs.declared.Way.{Way}
 use Rattle.rules.specs.Group.{room, normal, oil, emergency, last, headroom, unloading, crediting, lastStep, plain, all, toEmergency, unload, credit, remainder}
 use Rattle.rules.specs.Refusals.{Outcome, accepted, refused}
 use Rattle.rules.specs.declared.InternalSequence.{InternalSequence}
@@ -16,6 +22,31 @@ use Rattle.rules.specs.declared.Running.{Running}
 abbrev pub settled : List Running → Outcome (List Running) → Settled
 settled ss (accepted us) = record { verdict = Done; states = us }
 settled ss (refused x) = record { verdict = Refused x; states = ss }
+
+-- by how much two numbers differ
+abbrev pub apart : ℕ → ℕ → ℕ
+apart a b = a - b + (b - a)
+
+-- what was found gives the outcome of a remainder of r; for a way the lists hold its lines
+abbrev pub Suits : ℕ → List Running → ℕ → Outcome (List Running) → List ℕ → List ℕ → List ℕ → List ℕ → List ℕ → Found → Type 0
+Suits n ss r o one step span inv cap (By way) =
+    (byPrice way ≡ true) × (r ≤ all (wayOf way .room) ss n) × LinesOf (upOf way) (wayOf way .room) ss one step span inv cap n × (o ≡ accepted (plain (wayOf way) n ss r))
+Suits n ss r o one step span inv cap (Last k) = (k + all (room emergency) ss n ≤ all (room last) ss n) × (o ≡ accepted (plain lastStep n (toEmergency ss) k))
+Suits n ss r o one step span inv cap (No x) = o ≡ refused x
+
+module _ (n : ℕ) (ss : List Running) (one step span inv cap : List ℕ) where
+  pub suits-same : {r q : ℕ} {o u : Outcome (List Running)} → r ≡ q → o ≡ u → (f : Found) → Suits n ss q u one step span inv cap f → Suits n ss r o one step span inv cap f
+  suits-same d e f s = rw (d, e) s
+
+  module _ (r : ℕ) (o : Outcome (List Running)) (f : Found) (s : Suits n ss r o one step span inv cap f) where
+    pub suits-by : (way : Way) → f ≡ By way → Suits n ss r o one step span inv cap (By way)
+    suits-by way e = rw e at s
+
+    pub suits-last : (k : ℕ) → f ≡ Last k → Suits n ss r o one step span inv cap (Last k)
+    suits-last k e = rw e at s
+
+    pub suits-no : (x : Refusal) → f ≡ No x → o ≡ refused x
+    suits-no x e = rw e at s
 
 module _ (ss : List Running) {o : Outcome (List Running)} where
   pub settled-done : {us ws : List Running} {r : Settled} → r ≡ settled us (accepted us) → us ≡ ws → o ≡ accepted ws → r ≡ settled ss o

@@ -16,7 +16,8 @@ ghost use Rattle.rules.specs.Refusals.{accepted};
 ghost use Rattle.merit.specs.LevelNeverBelowB.{Sound};
 ghost use Rattle.merit.specs.NumbersStaySmall.{Small};
 ghost use Rattle.shift.specs.Ready.{AllReady};
-ghost use Rattle.group.specs.Settling.{settled};
+ghost use Rattle.ladder.specs.Ways.{Long};
+ghost use Rattle.group.specs.Settling.{settled, apart, Suits};
 
 // What a remainder comes to.
 pub enum Verdict {
@@ -40,7 +41,7 @@ fn normal_low(p: Plant) -> u32
     }
 }
 
-pub fn generation_of(p: Plant) -> u32
+fn generation_of(p: Plant) -> u32
     ensures { λ r. ⌜ r ≡ generation p ⌝ }
 {
     match p {
@@ -116,54 +117,118 @@ fn done(states: [Running; 32]) -> Settled
     }
 }
 
-// The ladder: the first rung with room, or 12.
-pub fn unloaded(
-    number: InternalSequence,
-    states: [Running; 32],
-    n: usize,
-    total: u64,
-    by_price: bool,
-) -> Settled
-    requires { ⌜ AllReady states n ⌝ }
-    ensures { λ r. ⌜ r ≡ settled states (unload number n states total) ⌝ }
-{
-    if total <= ladder::rooms(Way::Down(Rung::Normal), states, n) {
-        return done(ladder::moved(Way::Down(Rung::Normal), states, n, total, by_price));
-    }
-    if total <= ladder::rooms(Way::Down(Rung::Oil), states, n) {
-        return done(ladder::moved(Way::Down(Rung::Oil), states, n, total, by_price));
-    }
-    let emergency = ladder::rooms(Way::Down(Rung::Emergency), states, n);
-    if total <= emergency {
-        return done(ladder::moved(Way::Down(Rung::Emergency), states, n, total, by_price));
-    }
-    if total <= ladder::rooms(Way::Down(Rung::Last), states, n) {
-        return done(ladder::below_emergency(states, n, total - emergency));
-    }
-    Settled {
-        verdict: Verdict::Refused(Refusal::NoRoom(number)),
-        states: states,
-    }
+// What moves a remainder: a way by prices, or the last step with what it is to move, or nothing.
+pub enum Found {
+    By(Way),
+    Last(u64),
+    Refused(Refusal),
 }
 
-// A credit, or 13.
-pub fn credited(
+// The ladder: the first rung with room, or 12; and the lines of that rung.
+fn found_below(
     number: InternalSequence,
     states: [Running; 32],
     n: usize,
     total: u64,
-    by_price: bool,
-) -> Settled
+    one: &mut [u64; 32],
+    step: &mut [u64; 32],
+    span: &mut [u64; 32],
+    inv: &mut [u64; 32],
+    cap: &mut [u64; 32],
+) -> Found
     requires { ⌜ AllReady states n ⌝ }
-    ensures { λ r. ⌜ r ≡ settled states (credit number n states total) ⌝ }
+    requires long { ⌜ Long (now one) (now step) (now span) (now inv) (now cap) ⌝ }
+    ensures { λ r. ⌜ Suits n states total (unload number n states total) (now (one .exit)) (now (step .exit)) (now (span .exit)) (now (inv .exit)) (now (cap .exit)) r ⌝ }
 {
-    if total <= ladder::rooms(Way::Up, states, n) {
-        return done(ladder::moved(Way::Up, states, n, total, by_price));
+    let normal = ladder::lined(
+        Way::Down(Rung::Normal),
+        states,
+        n,
+        one,
+        step,
+        span,
+        inv,
+        cap,
+    );
+    if total <= normal {
+        return Found::By(Way::Down(Rung::Normal));
     }
-    Settled {
-        verdict: Verdict::Refused(Refusal::NoHeadroom(number)),
-        states: states,
+    let oil = ladder::lined(Way::Down(Rung::Oil), states, n, one, step, span, inv, cap);
+    if total <= oil {
+        return Found::By(Way::Down(Rung::Oil));
     }
+    let emergency = ladder::lined(
+        Way::Down(Rung::Emergency),
+        states,
+        n,
+        one,
+        step,
+        span,
+        inv,
+        cap,
+    );
+    if total <= emergency {
+        return Found::By(Way::Down(Rung::Emergency));
+    }
+    if total <= ladder::rooms(Way::Down(Rung::Last), states, n) {
+        return Found::Last(total - emergency);
+    }
+    Found::Refused(Refusal::NoRoom(number))
+}
+
+// A credit, or 13; and its lines.
+fn found_above(
+    number: InternalSequence,
+    states: [Running; 32],
+    n: usize,
+    total: u64,
+    one: &mut [u64; 32],
+    step: &mut [u64; 32],
+    span: &mut [u64; 32],
+    inv: &mut [u64; 32],
+    cap: &mut [u64; 32],
+) -> Found
+    requires { ⌜ AllReady states n ⌝ }
+    requires long { ⌜ Long (now one) (now step) (now span) (now inv) (now cap) ⌝ }
+    ensures { λ r. ⌜ Suits n states total (credit number n states total) (now (one .exit)) (now (step .exit)) (now (span .exit)) (now (inv .exit)) (now (cap .exit)) r ⌝ }
+{
+    let headroom = ladder::lined(Way::Up, states, n, one, step, span, inv, cap);
+    if total <= headroom {
+        return Found::By(Way::Up);
+    }
+    Found::Refused(Refusal::NoHeadroom(number))
+}
+
+// The one or the other, by the sign of the remainder.
+fn find_way(
+    number: InternalSequence,
+    n: usize,
+    total: u64,
+    took: u64,
+    states: [Running; 32],
+    one: &mut [u64; 32],
+    step: &mut [u64; 32],
+    span: &mut [u64; 32],
+    inv: &mut [u64; 32],
+    cap: &mut [u64; 32],
+) -> Found
+    requires { ⌜ AllReady states n ⌝ }
+    requires long { ⌜ Long (now one) (now step) (now span) (now inv) (now cap) ⌝ }
+    ensures { λ r. ⌜ Suits n states (apart total took) (remainder number n total took states) (now (one .exit)) (now (step .exit)) (now (span .exit)) (now (inv .exit)) (now (cap .exit)) r ⌝ }
+{
+    if took <= total {
+        return found_below(number, states, n, total - took, one, step, span, inv, cap);
+    }
+    found_above(number, states, n, took - total, one, step, span, inv, cap)
+}
+
+fn distance(a: u64, b: u64) -> u64
+    ensures { λ r. ⌜ r ≡ apart a b ⌝ }
+{
+    if b <= a {
+        return a - b;
+    }
+    b - a
 }
 
 // The group's remainder: its total less what its D lines took.
@@ -178,8 +243,47 @@ pub fn settle(
     requires { ⌜ AllReady states n ⌝ }
     ensures { λ r. ⌜ r ≡ settled states (remainder number n total took states) ⌝ }
 {
-    if took <= total {
-        return unloaded(number, states, n, total - took, by_price);
+    let mut one: [u64; 32] = [0; 32];
+    let mut step: [u64; 32] = [0; 32];
+    let mut span: [u64; 32] = [0; 32];
+    let mut inv: [u64; 32] = [0; 32];
+    let mut cap: [u64; 32] = [0; 32];
+    let rest = distance(total, took);
+    let found = find_way(
+        number,
+        n,
+        total,
+        took,
+        states,
+        &mut one,
+        &mut step,
+        &mut span,
+        &mut inv,
+        &mut cap,
+    );
+    match found {
+        Found::By(way) => {
+            return done(ladder::moved(
+                way,
+                states,
+                n,
+                rest,
+                by_price,
+                &one,
+                &step,
+                &span,
+                &inv,
+                &cap,
+            ));
+        }
+        Found::Last(k) => {
+            return done(ladder::below_emergency(states, n, k));
+        }
+        Found::Refused(x) => {
+            return Settled {
+                verdict: Verdict::Refused(x),
+                states: states,
+            };
+        }
     }
-    credited(number, states, n, took - total, by_price)
 }

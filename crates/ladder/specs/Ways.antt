@@ -4,6 +4,7 @@ use mathlib.Core.List.{List}
 use mathlib.Core.Path.{_≡_, refl, sym, _∙_}
 use Prim.Native.Nat.{ℕ, _-_, _≤_}
 use native.Mathlib.Omega.{arith}
+use lib.ListN.{length}
 use Rattle.curve.specs.Rungs.{rungOf}
 use Rattle.curve.specs.declared.Rung.{Rung}
 use Rattle.curve.specs.declared.Rung.the-variants.{Normal, Oil, Emergency, Last}
@@ -68,6 +69,29 @@ room-down way x s r g e h = let z : r ≡ wayOf way .room s = rw e (h ∙ sym (d
 
 pub room-up : (way : Way) (s : Running) (r : ℕ) → Ready s → way ≡ Up → r ≡ headroom s → (r ≡ wayOf way .room s) × (r ≤ 2000)
 room-up way s r g e h = let z : r ≡ wayOf way .room s = rw e h in (z, omega (arith, room-small way s g))
+
+-- five lists that may hold the lines of 32 sources
+pub record Long (one step span inv cap : List ℕ) : Type 0 where
+  pub long-one : length one ≡ 32
+  pub long-step : length step ≡ 32
+  pub long-span : length span ≡ 32
+  pub long-inv : length inv ≡ 32
+  pub long-cap : length cap ≡ 32
+
+module _ {up : Bool} {roomOf : Running → ℕ} {ss : List Running} {one step span inv cap : List ℕ} where
+  pub long-lines : Long one step span inv cap → LinesOf up roomOf ss one step span inv cap 0
+  long-lines l = record {
+    long-one = l .long-one;
+    long-step = l .long-step;
+    long-span = l .long-span;
+    long-inv = l .long-inv;
+    long-cap = l .long-cap;
+    lined = λ i m. absurd (omega arith);
+    rooms = λ i m. absurd (omega arith);
+  }
+
+  pub lines-long : {n : ℕ} → LinesOf up roomOf ss one step span inv cap n → Long one step span inv cap
+  lines-long l = record { long-one = l .long-one; long-step = l .long-step; long-span = l .long-span; long-inv = l .long-inv; long-cap = l .long-cap }
 
 -- the lines of all
 pub lines-done : (way : Way) {ss : List Running} {one step span inv cap : List ℕ} {up : Bool} {n i : ℕ} → up ≡ upOf way → i ≤ n → n ≤ i →

@@ -7,7 +7,8 @@ ghost use mathlib.Core.Path.{_≡_};
 ghost use Prim.Native.Nat.{_+_, _≤_};
 ghost use Rattle.rules.specs.Group.{all, room, emergency, last, plain, lastStep, toEmergency};
 ghost use Rattle.shift.specs.Ready.{Ready, AllReady};
-ghost use Rattle.ladder.specs.Ways.{wayOf, upOf, byPrice};
+ghost use Rattle.dispatch.specs.TakenIsPlain.{LinesOf};
+ghost use Rattle.ladder.specs.Ways.{wayOf, upOf, byPrice, Long};
 ghost use Rattle.ladder.specs.LastStep.{before, Chosen};
 
 // Down by a rung of the ladder, or up for a credit.
@@ -51,19 +52,24 @@ pub fn rooms(way: Way, states: [Running; 32], n: usize) -> u64
     sum
 }
 
-// The states after the total, by the one or the other engine.
-pub fn moved(way: Way, states: [Running; 32], n: usize, total: u64, by_price: bool) -> [Running; 32]
+// The lines of the first n, and by how many MWh they may be moved together.
+pub fn lined(
+    way: Way,
+    states: [Running; 32],
+    n: usize,
+    one: &mut [u64; 32],
+    step: &mut [u64; 32],
+    span: &mut [u64; 32],
+    inv: &mut [u64; 32],
+    cap: &mut [u64; 32],
+) -> u64
     requires { ⌜ AllReady states n ⌝ }
-    requires prices { ⌜ byPrice way ≡ true ⌝ }
-    requires room { ⌜ total ≤ all (wayOf way .room) states n ⌝ }
-    ensures { λ r. ⌜ r ≡ plain (wayOf way) n states total ⌝ }
+    requires long { ⌜ Long (now one) (now step) (now span) (now inv) (now cap) ⌝ }
+    ensures { λ r. ⌜ r ≡ all (wayOf way .room) states n ⌝ }
+    ensures lines { λ _. ⌜ LinesOf (upOf way) (wayOf way .room) states (now (one .exit)) (now (step .exit)) (now (span .exit)) (now (inv .exit)) (now (cap .exit)) n ⌝ }
 {
     let up = is_up(way);
-    let mut one: [u64; 32] = [0; 32];
-    let mut step: [u64; 32] = [0; 32];
-    let mut span: [u64; 32] = [0; 32];
-    let mut inv: [u64; 32] = [0; 32];
-    let mut cap: [u64; 32] = [0; 32];
+    let mut sum: u64 = 0;
     let mut i = 0;
     while i < n {
         let s = states[i];
@@ -74,9 +80,33 @@ pub fn moved(way: Way, states: [Running; 32], n: usize, total: u64, by_price: bo
         span[i] = line.span;
         inv[i] = line.inv;
         cap[i] = room;
+        sum += room;
         i += 1;
     }
-    let taken = shift::take(by_price, up, &one, &step, &span, &inv, &cap, n, total);
+    sum
+}
+
+// The states after the total, by the one or the other engine.
+pub fn moved(
+    way: Way,
+    states: [Running; 32],
+    n: usize,
+    total: u64,
+    by_price: bool,
+    one: &[u64; 32],
+    step: &[u64; 32],
+    span: &[u64; 32],
+    inv: &[u64; 32],
+    cap: &[u64; 32],
+) -> [Running; 32]
+    requires { ⌜ AllReady states n ⌝ }
+    requires prices { ⌜ byPrice way ≡ true ⌝ }
+    requires room { ⌜ total ≤ all (wayOf way .room) states n ⌝ }
+    requires lines { ⌜ LinesOf (upOf way) (wayOf way .room) states (now one) (now step) (now span) (now inv) (now cap) n ⌝ }
+    ensures { λ r. ⌜ r ≡ plain (wayOf way) n states total ⌝ }
+{
+    let up = is_up(way);
+    let taken = shift::take(by_price, up, one, step, span, inv, cap, n, total);
     shift::shift_all(up, states, n, &taken)
 }
 

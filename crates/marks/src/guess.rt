@@ -1,9 +1,11 @@
 // Where to look for the mark next. Nothing is promised of a guess: a poor one costs a round and no MWh.
 ghost use Prim.Native.Nat.{_≤_};
 use crate::Offer;
+use crate::least;
 use crate::less;
 
 // What the search knows: at lo there are more MWh than the total, at hi no more, and `spare` of one merit are next below hi. `next` is a mark to try.
+// The slope is to stop `short` MWh before the total, and where it leads nowhere `many` may be left.
 pub struct Guess {
     pub lo: u64,
     pub over: u64,
@@ -11,6 +13,14 @@ pub struct Guess {
     pub held: u64,
     pub spare: u64,
     pub next: u64,
+    pub short: u64,
+    pub many: u64,
+}
+
+// A mark to try, and the MWh of one merit next below it, where they were looked for.
+pub struct Trial {
+    pub mark: u64,
+    pub spare: u64,
 }
 
 // Of the sources with one merit, where those next below and above a mark begin, and the MWh of those that begin at it.
@@ -25,7 +35,7 @@ fn between(lo: u64, hi: u64, part: u64, whole: u64) -> u64 {
     if whole == 0 {
         return lo;
     }
-    if 65536 < part {
+    if 131072 < part {
         return lo;
     }
     let d = less(hi, lo) / 64;
@@ -35,38 +45,118 @@ fn between(lo: u64, hi: u64, part: u64, whole: u64) -> u64 {
     less(hi, d * (part * 64 / whole) + 1)
 }
 
-// The first guess, by where merits begin and end and the MWh of all sources.
-pub fn first(one: &[u64; 32], span: &[u64; 32], cap: &[u64; 32], n: usize, total: u64) -> Guess
+fn mean(sum: u64, count: u64) -> u64 {
+    if count == 0 {
+        return 0;
+    }
+    sum / count
+}
+
+// A mark by the ends of all merits and their middle, above which half of the MWh are taken to be.
+fn by_thirds(lo: u64, middle: u64, hi: u64, total: u64, over: u64) -> u64 {
+    let twice = std::num::wrapping_add_u64(total, total);
+    if twice < over {
+        return between(middle, hi, twice, over);
+    }
+    between(lo, middle, twice - over, over)
+}
+
+// Where merits begin and end, and the MWh of all sources.
+fn ends(one: &[u64; 32], span: &[u64; 32], cap: &[u64; 32], n: usize, total: u64) -> Guess
     requires { ⌜ n ≤ 32 ⌝ }
 {
     let mut lo: u64 = 281474976710657;
-    let mut hi: u64 = 1;
+    let mut hi: u64 = 0;
     let mut over: u64 = 0;
+    let mut middles: u64 = 0;
+    let mut count: u64 = 0;
     let mut i = 0;
     while i < n {
         let o = one[i];
         let w = span[i];
-        let end = if w == 0 { lo } else { less(o, w) };
+        let end = if w == 0 { 281474976710657 } else { less(o, w) };
         lo = if end < lo { end } else { lo };
-        hi = if o < hi {
-            hi
-        } else {
-            std::num::wrapping_add_u64(o, 1)
-        };
+        hi = if hi < o { o } else { hi };
         over = std::num::wrapping_add_u64(over, cap[i]);
+        middles = std::num::wrapping_add_u64(middles, less(o, w / 2));
+        count = std::num::wrapping_add_u64(count, least(w, 1));
         i += 1;
     }
+    let short: u64 = if n < 16 { 1 } else { 3 };
     Guess {
         lo: lo,
         over: over,
         hi: hi,
         held: 0,
         spare: 0,
-        next: between(lo, hi, total, over),
+        next: by_thirds(lo, mean(middles, count), hi, total, over),
+        short: least(short, total / 32 + 1),
+        many: if n < 16 { 8 } else { 32 },
     }
 }
 
-pub fn flats_at(one: &[u64; 32], span: &[u64; 32], cap: &[u64; 32], n: usize, p: u64) -> Flats
+// The slope at the best merit, and as its sum the MWh of sources with that merit alone.
+fn top(
+    one: &[u64; 32],
+    span: &[u64; 32],
+    inv: &[u64; 32],
+    cap: &[u64; 32],
+    n: usize,
+    p: u64,
+) -> Offer
+    requires { ⌜ n ≤ 32 ⌝ }
+{
+    let mut sum: u64 = 0;
+    let mut slope: u64 = 0;
+    let mut i = 0;
+    while i < n {
+        let o = one[i];
+        let w = span[i];
+        let v = inv[i];
+        let k = cap[i];
+        let s = if w == 1 { 0 } else { v };
+        let l = if w == 1 { k } else { 0 };
+        slope = std::num::wrapping_add_u64(slope, if o == p { s } else { 0 });
+        sum = std::num::wrapping_add_u64(sum, if o == p { l } else { 0 });
+        i += 1;
+    }
+    Offer {
+        sum: sum,
+        slope: slope,
+    }
+}
+
+// The first guess: by the ends, or for few MWh by the slope at the best merit.
+pub fn first(
+    one: &[u64; 32],
+    span: &[u64; 32],
+    inv: &[u64; 32],
+    cap: &[u64; 32],
+    n: usize,
+    total: u64,
+) -> Guess
+    requires { ⌜ n ≤ 32 ⌝ }
+{
+    let g = ends(one, span, cap, n, total);
+    if g.over / 32 <= total {
+        return g;
+    }
+    let t = top(one, span, inv, cap, n, g.hi);
+    lower(
+        g,
+        Trial {
+            mark: g.hi,
+            spare: t.sum,
+        },
+        Offer {
+            sum: 0,
+            slope: t.slope,
+        },
+        total,
+    )
+}
+
+fn flats_at(one: &[u64; 32], span: &[u64; 32], cap: &[u64; 32], n: usize, p: u64) -> Flats
     requires { ⌜ n ≤ 32 ⌝ }
 {
     let mut below: u64 = 0;
@@ -90,13 +180,29 @@ pub fn flats_at(one: &[u64; 32], span: &[u64; 32], cap: &[u64; 32], n: usize, p:
     }
 }
 
+fn inside(g: Guess, p: u64) -> bool {
+    if g.lo < p {
+        return p < g.hi;
+    }
+    false
+}
+
 // Whether the rest is left to single steps: a few MWh, after some rounds more, and what is spare.
 pub fn enough(g: Guess, total: u64, round: u64) -> bool {
     if less(g.hi, g.lo) <= 1 {
         return true;
     }
-    let few = std::num::wrapping_add_u64(6, less(round, 3));
-    less(less(total, g.held), g.spare) <= few
+    let rest = less(less(total, g.held), g.spare);
+    if rest <= std::num::wrapping_add_u64(6, less(round, 3)) {
+        return true;
+    }
+    if inside(g, g.next) {
+        return false;
+    }
+    if round == 0 {
+        return false;
+    }
+    rest <= g.many
 }
 
 fn middle(g: Guess) -> u64 {
@@ -117,6 +223,13 @@ fn near(g: Guess, f: Flats, p: u64) -> u64 {
     p
 }
 
+fn within(g: Guess, p: u64) -> u64 {
+    if inside(g, p) {
+        return p;
+    }
+    middle(g)
+}
+
 // The mark to try: that of the guess, if it lies inside; else by the MWh at lo and hi and by halves in turn, and after 14 rounds by halves.
 pub fn mark(
     one: &[u64; 32],
@@ -126,26 +239,29 @@ pub fn mark(
     g: Guess,
     total: u64,
     round: u64,
-) -> u64
+) -> Trial
     requires { ⌜ n ≤ 32 ⌝ }
 {
     if 13 < round {
-        return middle(g);
+        return Trial {
+            mark: middle(g),
+            spare: 0,
+        };
     }
-    if g.lo < g.next {
-        if g.next < g.hi {
-            return g.next;
-        }
+    if inside(g, g.next) {
+        return Trial {
+            mark: g.next,
+            spare: 0,
+        };
     }
     let by = between(g.lo, g.hi, less(total, g.held), less(g.over, g.held));
     let p = if round % 2 == 0 { middle(g) } else { by };
-    let q = near(g, flats_at(one, span, cap, n, p), p);
-    if g.lo < q {
-        if q < g.hi {
-            return q;
-        }
+    let m = within(g, near(g, flats_at(one, span, cap, n, p), p));
+    let f = flats_at(one, span, cap, n, m);
+    Trial {
+        mark: m,
+        spare: f.level,
     }
-    middle(g)
 }
 
 // How far a mark must move for so many MWh at a slope.
@@ -159,31 +275,36 @@ fn way(need: u64, slope: u64) -> u64 {
     need * 1099511627776 / slope
 }
 
-// What is known after the mark m held no more than the total, and after it held more. The next mark is by the slope, if no source of one merit begins before it.
-pub fn lower(g: Guess, m: u64, e: Offer, f: Flats, total: u64) -> Guess {
-    let need = less(less(total, e.sum), std::num::wrapping_add_u64(f.level, 3));
-    let p = less(m, std::num::wrapping_add_u64(way(need, e.slope), 1));
-    let next = if p < f.below { 0 } else { p };
+// What is known after a mark held no more than the total, and after it held more. The next mark is by the slope.
+pub fn lower(g: Guess, t: Trial, e: Offer, total: u64) -> Guess {
+    let need = less(
+        less(total, e.sum),
+        std::num::wrapping_add_u64(t.spare, g.short),
+    );
+    let next = less(t.mark, std::num::wrapping_add_u64(way(need, e.slope), 1));
     Guess {
         lo: g.lo,
         over: g.over,
-        hi: m,
+        hi: t.mark,
         held: e.sum,
-        spare: f.level,
+        spare: t.spare,
         next: next,
+        short: g.short,
+        many: g.many,
     }
 }
 
-pub fn upper(g: Guess, m: u64, e: Offer, f: Flats, total: u64) -> Guess {
-    let need = std::num::wrapping_add_u64(less(e.sum, total), 3);
-    let p = std::num::wrapping_add_u64(m, way(need, e.slope));
-    let next = if f.above < p { 0 } else { p };
+pub fn upper(g: Guess, t: Trial, e: Offer, total: u64) -> Guess {
+    let need = std::num::wrapping_add_u64(less(e.sum, total), g.short);
+    let next = std::num::wrapping_add_u64(t.mark, way(need, e.slope));
     Guess {
-        lo: m,
+        lo: t.mark,
         over: e.sum,
         hi: g.hi,
         held: g.held,
         spare: g.spare,
         next: next,
+        short: g.short,
+        many: g.many,
     }
 }

@@ -91,7 +91,7 @@ pub fn find_mark(
     requires { ⌜ Table (now one) (now step) (now span) (now inv) (now cap) n ⌝ }
     ensures { λ m. ⌜ Marked (now (one .entry)) (now (step .entry)) (now (span .entry)) (now (inv .entry)) n total (m .merit) (m .sum) ⌝ }
 {
-    let mut g = guess::first(one, span, cap, n, total);
+    let mut g = guess::first(one, span, inv, cap, n, total);
     let mut best = Mark {
         merit: 281474976710657,
         sum: 0,
@@ -101,17 +101,17 @@ pub fn find_mark(
         if guess::enough(g, total, round) {
             return best;
         }
-        let m = guess::mark(one, span, cap, n, g, total, round);
+        let t = guess::mark(one, span, cap, n, g, total, round);
+        let m = t.mark;
         let e = supply(one, step, span, inv, n, m);
-        let f = guess::flats_at(one, span, cap, n, m);
         if e.sum <= total {
             best = Mark {
                 merit: m,
                 sum: e.sum,
             };
-            g = guess::lower(g, m, e, f, total);
+            g = guess::lower(g, t, e, total);
         } else {
-            g = guess::upper(g, m, e, f, total);
+            g = guess::upper(g, t, e, total);
         }
         round += 1;
     }

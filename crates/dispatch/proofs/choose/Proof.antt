@@ -1,4 +1,4 @@
--- `dispatch::choose` meets its contract: the invariant is `Lead`, the best of the sources passed and what takes its place.
+-- `dispatch::choose` meets its contract: the invariant is `Lead`, the highest of the numbers passed and what takes its place.
 use mathlib.Core.Logic.{⊎-elim, inl, inr}
 use Prim.Native.Nat.{_+_, _^_, _-_, _≤_}
 use native.Mathlib.Omega.{arith}
@@ -8,11 +8,10 @@ use Rattle.dispatch.proofs.choose.Statement.{statement}
 use Rattle.dispatch.proofs.choose.Tie as tie
 
 abbrev Inv-loop : tie.InvT-loop
-Inv-loop up one step cap taken n more best₀ bar₀ i₀ best bar i =
-    (bar ≤ 2 ^ 48 + 2) × Lead up more one step cap taken n best bar i
+Inv-loop up left n more best₀ bar₀ i₀ best bar i = (bar ≤ 2 ^ 48 + 2) × Lead up more left n best bar i
 
 abbrev μ-loop : tie.MeasureT-loop
-μ-loop up one step cap taken n more best₀ bar₀ i₀ best bar i = n - i
+μ-loop up left n more best₀ bar₀ i₀ best bar i = n - i
 
 the-inc : (c : tie.Joined1 Inv-loop μ-loop) → Inc (c .before .args .up) (c .if1 .more)
 the-inc c = ⊎-elim (λ w. inl (w .0 .taken, w .1)) (λ w. inr (w .0 .left, w .1)) (c .if1 .came)
@@ -21,37 +20,16 @@ inc-small : (c : tie.Joined1 Inv-loop μ-loop) → c .if1 .more ≤ 1
 inc-small c = ⊎-elim (λ w. omega arith) (λ w. omega arith) (c .if1 .came)
 
 loop-holds : tie.Need-loop-holds Inv-loop μ-loop
-loop-holds c = (omega arith, lead-start _ _ _ _ _ _ _)
+loop-holds c = (omega arith, lead-start _ _ _ _)
 
-mul-next : tie.Need-mul-next Inv-loop μ-loop
-mul-next c = search needs
+mul-m : tie.Need-mul-m Inv-loop μ-loop
+mul-m c = search needs
 
-element-copy-out-next : tie.Need-element-copy-out-next Inv-loop μ-loop
-element-copy-out-next c = search needs
-
-mul-next-2 : tie.Need-mul-next-2 Inv-loop μ-loop
-mul-next-2 c = search needs
-
-element-copy-out-next-2 : tie.Need-element-copy-out-next-2 Inv-loop μ-loop
-element-copy-out-next-2 c = search needs
-
-mul-next-3 : tie.Need-mul-next-3 Inv-loop μ-loop
-mul-next-3 c = search needs
-
-element-copy-out-next-3 : tie.Need-element-copy-out-next-3 Inv-loop μ-loop
-element-copy-out-next-3 c = search needs
-
-mul-next-4 : tie.Need-mul-next-4 Inv-loop μ-loop
-mul-next-4 c = search needs
-
-element-copy-out-next-4 : tie.Need-element-copy-out-next-4 Inv-loop μ-loop
-element-copy-out-next-4 c = search needs
-
-next-requires : tie.Need-next-requires Inv-loop μ-loop
-next-requires c κs = c .before .before .before .before .before .before .before .pre .falls _ (omega arith)
+element-copy-out-m : tie.Need-element-copy-out-m Inv-loop μ-loop
+element-copy-out-m c = search needs
 
 add-bar : tie.Need-add-bar Inv-loop μ-loop
-add-bar c = omega (arith, inc-small (c .before .before .before .before .before .before .before .before .before), c .before .before .next .ensures .small)
+add-bar c = omega (arith, inc-small (c .before .before .before .before .before), c .before .before .before .before .before .before .pre .1 .small (c .before .before .before .before .loop .i) (omega arith))
 
 add-i : tie.Need-add-i Inv-loop μ-loop
 add-i c = search needs
@@ -61,15 +39,15 @@ loop-less c = search needs
 
 loop-again : tie.Need-loop-again Inv-loop μ-loop
 loop-again c =
-    let head = c .before .before .before .before .before .before .before .loop in
-    let inc = the-inc (c .before .before .before .before .before .before .before .before) in
+    let head = c .before .before .before .loop in
+    let inc = the-inc (c .before .before .before .before) in
     ⊎-elim
-    (λ w. rw (w .2, w .3) (omega (arith, inc-small (c .before .before .before .before .before .before .before .before), c .before .next .ensures .small), lead-take _ _ _ _ _ _ _ _ _ _ _ inc (head .inv .1) (omega arith) (c .before .next .ensures) (w .0 .taken)))
-    (λ w. rw (w .1, w .2) (head .inv .0, lead-keep _ _ _ _ _ _ _ _ _ _ _ inc (head .inv .1) (omega arith) (c .before .next .ensures) (w .0 .left)))
+    (λ w. rw (w .2, w .3) (omega (arith, inc-small (c .before .before .before .before), c .before .before .before .before .before .pre .1 .small (head .i) (omega arith)), lead-take _ _ _ _ _ _ _ inc (head .inv .1) (omega arith) (w .0 .taken)))
+    (λ w. rw (w .1, w .2) (head .inv .0, lead-keep _ _ _ _ _ _ _ inc (head .inv .1) (omega arith) (w .0 .left)))
     (c .if2 .came)
 
 returns : tie.Need-returns Inv-loop μ-loop
-returns c = lead-end _ _ _ _ _ _ _ _ _ _ (c .before .loop .inv .1) (c .loop-test .left)
+returns c = lead-end _ _ _ _ _ _ _ (c .before .loop .inv .1) (c .loop-test .left)
 
 pub choose-spec : {M : Type 1} → statement M
 choose-spec =
@@ -78,15 +56,8 @@ choose-spec =
     Inv-loop
     μ-loop
     loop-holds
-    mul-next
-    element-copy-out-next
-    mul-next-2
-    element-copy-out-next-2
-    mul-next-3
-    element-copy-out-next-3
-    mul-next-4
-    element-copy-out-next-4
-    next-requires
+    mul-m
+    element-copy-out-m
     add-bar
     add-i
     loop-less

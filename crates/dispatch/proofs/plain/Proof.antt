@@ -1,42 +1,76 @@
 -- `dispatch::plain` meets its contract: what was moved is `Taken`, and each MWh more is a block of one.
 use mathlib.Core.Path.{refl}
 use mathlib.Core.Logic.{inr}
-use Prim.Native.Nat.{_<_, _-_, _≤_}
+use Prim.Native.Nat.{_<_, _-_}
 use native.Mathlib.Omega.{arith}
+use Rattle.dispatch.proofs.Levels.{left-small, highest-choice, going-more}
+use Rattle.dispatch.proofs.Taking.{taken-all, taken-none, choice-there}
+use Rattle.dispatch.specs.Taken.{table-sources, Going}
 use borrow.Author.Needs.{needs}
-use Rattle.dispatch.proofs.Taking.{taken-all, taken-none, choice-there, taken-more}
-use Rattle.dispatch.specs.Taken.{table-sources, Taken}
 use Rattle.dispatch.proofs.plain.Statement.{statement}
 use Rattle.dispatch.proofs.plain.Tie as tie
 
 abbrev Inv-loop : tie.InvT-loop
-Inv-loop up one step span inv cap n total taken₀ moved₀ taken moved = (moved ≤ total) × Taken up one step cap n moved taken
+Inv-loop up one step span inv cap n total taken₀ left₀ moved₀ taken left moved = Going up one step cap n total moved taken left
 
 abbrev μ-loop : tie.MeasureT-loop
-μ-loop up one step span inv cap n total taken₀ moved₀ taken moved = total - moved
+μ-loop up one step span inv cap n total taken₀ left₀ moved₀ taken left moved = total - moved
 
-in-range : (c : tie.After-choose Inv-loop μ-loop) → c .choose .result < c .before .before .before .before .args .n
-in-range c = choice-there _ _ _ _ _ _ _ _ _ (c .before .before .before .loop .inv .1) (c .before .before .loop-test .taken) (c .before .before .before .before .pre .1) (c .choose .ensures)
+in-range : (c : tie.After-choose Inv-loop μ-loop) → c .choose .result < c .before .before .before .before .before .before .before .args .n
+in-range c = choice-there _ _ _ _ _ _ _ _ _ (c .before .before .before .loop .inv .taken) (c .before .before .loop-test .taken) (c .before .before .before .before .before .before .before .pre .1) (highest-choice (c .before .before .before .loop .inv .left) (c .choose .ensures))
+
+find-left-requires : tie.Need-find-left-requires Inv-loop μ-loop
+find-left-requires c κs = (table-sources (c .before .before .pre .0), refl)
 
 loop-holds : tie.Need-loop-holds Inv-loop μ-loop
-loop-holds c = (omega arith, taken-none _ _ _ _ _)
+loop-holds c = record { within = omega arith; taken = taken-none _ _ _ _ _; left = c .find-left .ensures }
 
 choose-requires : tie.Need-choose-requires Inv-loop μ-loop
-choose-requires c κs = table-sources (c .before .before .before .pre .0)
+choose-requires c κs = (c .before .before .before .before .before .before .pre .0 .n-small, left-small (c .before .before .loop .inv .left))
+
+mul-k : tie.Need-mul-k Inv-loop μ-loop
+mul-k c = search needs
+
+array-read-k : tie.Need-array-read-k Inv-loop μ-loop
+array-read-k c = omega (arith, in-range c, c .before .before .before .before .before .before .before .pre .0 .n-small)
+
+add-k : tie.Need-add-k Inv-loop μ-loop
+add-k c =
+    let l = in-range c in
+    omega (arith, highest-choice (c .before .before .before .loop .inv .left) (c .choose .ensures) .some l .room, c .before .before .before .before .before .before .before .pre .0 .source _ l .falls .cap-small)
 
 mul-taken : tie.Need-mul-taken Inv-loop μ-loop
 mul-taken c = search needs
 
-array-read-taken : tie.Need-array-read-taken Inv-loop μ-loop
-array-read-taken c = omega (arith, in-range c, c .before .before .before .before .pre .0 .n-small)
-
-add-taken : tie.Need-add-taken Inv-loop μ-loop
-add-taken c =
-    let l = in-range c in
-    omega (arith, c .choose .ensures .some l .room, c .before .before .before .before .pre .0 .source _ l .falls .cap-small)
-
 array-write-taken : tie.Need-array-write-taken Inv-loop μ-loop
-array-write-taken c = omega (arith, in-range c, c .before .before .before .before .pre .0 .n-small)
+array-write-taken c = omega (arith, in-range c, c .before .before .before .before .before .before .before .pre .0 .n-small)
+
+mul-next : tie.Need-mul-next Inv-loop μ-loop
+mul-next c = search needs
+
+element-copy-out-next : tie.Need-element-copy-out-next Inv-loop μ-loop
+element-copy-out-next c = omega (arith, in-range c, c .before .before .before .before .before .before .before .pre .0 .n-small)
+
+mul-next-2 : tie.Need-mul-next-2 Inv-loop μ-loop
+mul-next-2 c = search needs
+
+element-copy-out-next-2 : tie.Need-element-copy-out-next-2 Inv-loop μ-loop
+element-copy-out-next-2 c = omega (arith, in-range (c .before), c .before .before .before .before .before .before .before .before .pre .0 .n-small)
+
+mul-next-3 : tie.Need-mul-next-3 Inv-loop μ-loop
+mul-next-3 c = search needs
+
+element-copy-out-next-3 : tie.Need-element-copy-out-next-3 Inv-loop μ-loop
+element-copy-out-next-3 c = omega (arith, in-range (c .before .before), c .before .before .before .before .before .before .before .before .before .pre .0 .n-small)
+
+next-requires : tie.Need-next-requires Inv-loop μ-loop
+next-requires c κs = c .before .before .before .before .before .before .before .before .before .before .pre .0 .source _ (in-range (c .before .before .before)) .falls
+
+mul-left : tie.Need-mul-left Inv-loop μ-loop
+mul-left c = search needs
+
+array-write-left : tie.Need-array-write-left Inv-loop μ-loop
+array-write-left c = omega (arith, in-range (c .before .before .before .before), c .before .before .before .before .before .before .before .before .before .before .before .pre .0 .n-small)
 
 add-moved : tie.Need-add-moved Inv-loop μ-loop
 add-moved c = search needs
@@ -46,14 +80,14 @@ loop-less c = search needs
 
 loop-again : tie.Need-loop-again Inv-loop μ-loop
 loop-again c =
-    let l = in-range c in (
-      omega arith,
-      taken-more _ _ _ _ _ _ 1 _ _ _ (c .before .before .before .before .pre .0 .n-small) (c .before .before .before .loop .inv .1) l (c .choose .ensures)
-          (record { some = omega arith; within = omega arith; room = omega (arith, c .choose .ensures .some l .room); level = inr refl }),
-    )
+    let l = in-range (c .before .before .before .before) in
+    let d = highest-choice (c .before .before .before .before .before .before .before .loop .inv .left) (c .before .before .before .before .choose .ensures) in
+    going-more {rest = 1} (c .before .before .before .before .before .before .before .before .before .before .before .pre .0 .n-small) (c .before .before .before .before .before .before .before .loop .inv) l d (omega arith)
+    (record { some = omega arith; within = omega arith; room = omega (arith, d .some l .room); level = inr refl; full = λ m e. absurd (omega arith) })
+    (c .next .ensures)
 
 returns : tie.Need-returns Inv-loop μ-loop
-returns c = taken-all _ _ _ _ _ _ _ _ (c .before .loop .inv .0) (c .loop-test .left) (c .before .loop .inv .1)
+returns c = taken-all _ _ _ _ _ _ _ _ (c .before .loop .inv .within) (c .loop-test .left) (c .before .loop .inv .taken)
 
 pub plain-spec : {M : Type 1} → statement M
 plain-spec =
@@ -61,12 +95,23 @@ plain-spec =
     (tie.spec
     Inv-loop
     μ-loop
+    find-left-requires
     loop-holds
     choose-requires
+    mul-k
+    array-read-k
+    add-k
     mul-taken
-    array-read-taken
-    add-taken
     array-write-taken
+    mul-next
+    element-copy-out-next
+    mul-next-2
+    element-copy-out-next-2
+    mul-next-3
+    element-copy-out-next-3
+    next-requires
+    mul-left
+    array-write-left
     add-moved
     loop-less
     loop-again

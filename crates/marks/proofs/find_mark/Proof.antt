@@ -33,9 +33,6 @@ mark-requires c κs = search needs
 supply-requires : tie.Need-supply-requires Inv-loop μ-loop
 supply-requires c κs = table-scales (c .before .before .before .before .before .before .pre)
 
-flats-at-requires : tie.Need-flats-at-requires Inv-loop μ-loop
-flats-at-requires c κs = search needs
-
 lower-requires : tie.Need-lower-requires Inv-loop μ-loop
 lower-requires c κs = search needs
 
@@ -52,8 +49,8 @@ loop-again : tie.Need-loop-again Inv-loop μ-loop
 loop-again c = (
   omega arith,
   ⊎-elim
-      (λ w. rw (w .3) (record { within = w .0 .taken; adds = c .before .before .before .supply .ensures }))
-      (λ w. rw (w .3) (c .before .before .before .before .before .before .before .before .loop .inv .1))
+      (λ w. rw (w .3) (record { within = w .0 .taken; adds = c .before .before .supply .ensures }))
+      (λ w. rw (w .3) (c .before .before .before .before .before .before .before .loop .inv .1))
       (c .if2 .came),
 )
 
@@ -72,7 +69,6 @@ find-mark-spec =
     returns
     mark-requires
     supply-requires
-    flats-at-requires
     lower-requires
     upper-requires
     add-round
