@@ -41,7 +41,7 @@ fn normal_low(p: Plant) -> u32
     }
 }
 
-fn generation_of(p: Plant) -> u32
+pub fn generation_of(p: Plant) -> u32
     ensures { λ r. ⌜ r ≡ generation p ⌝ }
 {
     match p {
