@@ -1,6 +1,7 @@
-// A refusal's number and place. The contracts cite rules' Refusals.
+// A refusal's number and place, and both in one number. The contracts cite rules' Refusals, and Codes.
 ghost use mathlib.Core.Path.{_≡_};
 ghost use Rattle.rules.specs.Refusals.{numberOf, placeOf};
+ghost use Rattle.codes.specs.Codes.{codeOf};
 use rules::Refusal;
 
 pub fn number_of(r: Refusal) -> u64
@@ -52,4 +53,13 @@ pub fn place_of(r: Refusal) -> usize
         Refusal::Short => 0,
         Refusal::NoDeck => 0,
     }
+}
+
+// Both in one number.
+pub fn code_of(r: Refusal) -> u64
+    ensures { λ n. ⌜ n ≡ codeOf r ⌝ }
+{
+    let number = number_of(r);
+    let place = place_of(r) as u64;
+    number * 4294967296 + place % 4294967296
 }

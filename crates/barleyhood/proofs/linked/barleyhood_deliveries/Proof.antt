@@ -1,0 +1,28 @@
+-- The verdict tells which outcome the deck has, and the count is of the hour read.
+use mathlib.Core.Path.{_∙_}
+use Rattle.barleyhood.specs.Told.{deliveries-told, deliveries-refused}
+use borrow.Author.Needs.{needs}
+use Rattle.barleyhood.proofs.linked.barleyhood_deliveries.Statement.{statement}
+use Rattle.barleyhood.proofs.linked.barleyhood_deliveries.Tie as tie
+
+read-requires : tie.Need-read-requires
+read-requires c κs = search needs
+
+enum-told : tie.Need-enum-told
+enum-told c = search needs
+
+enum-known-v : tie.Need-enum-known-v
+enum-known-v c = search needs
+
+code-of-requires : tie.Need-code-of-requires
+code-of-requires c κs = search needs
+
+returns : tie.Need-returns
+returns c = deliveries-told _ (c .before .before .before .read .result) (c .before .before .before .read .ensures) (c .enum-told .given .1)
+
+returns-2 : tie.Need-returns-2
+returns-2 c = c .code-of .ensures ∙ deliveries-refused _ (c .before .before .before .before .before .read .result) (c .before .before .before .before .before .read .ensures) _ (c .before .before .v .given .1)
+
+pub barleyhood-deliveries-spec : {M : Type 1} → statement M
+barleyhood-deliveries-spec =
+    tie.close (tie.spec read-requires enum-told enum-known-v code-of-requires returns returns-2)

@@ -1,0 +1,39 @@
+-- The verdict tells which outcome the deck has; an hour that is read goes to the reconstruction.
+use mathlib.Core.Path.{_∙_}
+use Rattle.barleyhood.specs.Told.{cells-told, cells-refused}
+use borrow.Author.Needs.{needs}
+use Rattle.barleyhood.proofs.linked.barleyhood_plain.Statement.{statement}
+use Rattle.barleyhood.proofs.linked.barleyhood_plain.Tie as tie
+
+read-requires : tie.Need-read-requires
+read-requires c κs = search needs
+
+enum-told : tie.Need-enum-told
+enum-told c = search needs
+
+plain-requires : tie.Need-plain-requires
+plain-requires c κs = search needs
+
+cells-code-requires : tie.Need-cells-code-requires
+cells-code-requires c κs = search needs
+
+enum-known-v : tie.Need-enum-known-v
+enum-known-v c = search needs
+
+code-of-requires : tie.Need-code-of-requires
+code-of-requires c κs = search needs
+
+same-length : tie.Need-same-length
+same-length c = search needs
+
+returns : tie.Need-returns
+returns c = let x = c .before .before .plain in
+    cells-told _ (c .before .before .before .before .before .before .before .read .result) (c .before .before .before .before .before .before .before .read .ensures) (c .before .before .before .before .enum-told .given .1) _ (x .result) _ (c .before .before .before .before .before .before .before .before .before .args .out .now) _ (x .ensures .0) (c .cells-code .ensures) (x .ensures .1)
+
+returns-2 : tie.Need-returns-2
+returns-2 c = let x = cells-refused _ (c .before .before .before .before .before .read .result) (c .before .before .before .before .before .read .ensures) _ (c .before .before .v .given .1) _ (c .before .before .before .before .before .before .before .args .out .now) in
+    (c .code-of .ensures ∙ x .0, x .1)
+
+pub barleyhood-plain-spec : {M : Type 1} → statement M
+barleyhood-plain-spec =
+    tie.close (tie.spec read-requires enum-told plain-requires cells-code-requires enum-known-v code-of-requires same-length returns returns-2)

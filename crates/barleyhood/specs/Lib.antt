@@ -1,0 +1,4 @@
+pub mod Linked
+pub mod Told
+pub mod LabelsStand
+pub mod Places

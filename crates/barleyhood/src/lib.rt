@@ -1,0 +1,138 @@
+// Every public call of Barleyhood, with what it promises on each input: an equation for its result and for all lent memory.
+// The definitions cited are rules' (crates/rules/specs); an answer's enum is the case for each outcome.
+mod linked;
+
+ghost use mathlib.Core.Path.{_≡_};
+ghost use lib.ListN.{length};
+ghost use Rattle.rules.specs.Answers.{curveAnswer};
+ghost use Rattle.rules.specs.Calls.{writing, reconstruction, reporting, leaves, sourcePart, deliveryPart};
+ghost use Rattle.rules.specs.Reading.{reading};
+ghost use Rattle.rules.specs.Refusals.{numberOf, placeOf};
+ghost use Rattle.rules.specs.Units.{curveMade, costAsked};
+ghost use Rattle.rules.specs.Writing as given;
+ghost use Rattle.hour.specs.Tried.{verdictOf};
+ghost use Rattle.deck.specs.Answers.{readAnswer};
+ghost use Rattle.writer.specs.Answers.{writtenOf};
+ghost use Rattle.reconstruct.specs.Answers.{reconstructedOf};
+ghost use Rattle.curve.specs.Answers.{costAnswer};
+ghost use Rattle.printout.specs.Printing.{printedOf};
+pub use curve::CostAnswer;
+pub use deck::ReadHour;
+pub use hour::Verdict;
+pub use printout::Printed;
+pub use reconstruct::Reconstructed;
+pub use rules::Basis;
+pub use rules::CurveAnswer;
+pub use rules::Delivery;
+pub use rules::Direct;
+pub use rules::HeatCurve;
+pub use rules::Hour;
+pub use rules::InputSequence;
+pub use rules::InternalSequence;
+pub use rules::Label;
+pub use rules::Plant;
+pub use rules::Refusal;
+pub use rules::Source;
+pub use rules::Unit;
+pub use writer::Written;
+
+// Decks.
+
+// The hour that a deck's bytes state, or the refusal 1 to 11 beside the blank hour.
+pub fn read(s: &[u8]) -> ReadHour
+    ensures { λ r. ⌜ r ≡ readAnswer (reading (now (s .entry))) ⌝ }
+{
+    deck::read(s)
+}
+
+// Whether a deck is accepted.
+pub fn check(s: &[u8]) -> Verdict
+    ensures { λ r. ⌜ r ≡ verdictOf (reading (now (s .entry))) ⌝ }
+{
+    deck::check_deck(s)
+}
+
+// The label of source i, as the part of the deck at the label's own bytes between the quotes, escapes unread.
+pub fn source_label<'a>(s: &'a [u8], i: usize) -> &'a [u8]
+    ensures { λ r. ⌜ now r ≡ sourcePart (now (s .entry)) i ⌝ }
+{
+    deck::source_label(s, i)
+}
+
+// The same of delivery j.
+pub fn delivery_label<'a>(s: &'a [u8], j: usize) -> &'a [u8]
+    ensures { λ r. ⌜ now r ≡ deliveryPart (now (s .entry)) j ⌝ }
+{
+    deck::delivery_label(s, j)
+}
+
+// The deck's report as text into lent bytes: 14 where it does not fit. A deck that is refused has a report too.
+pub fn report(s: &[u8], out: &mut [u8]) -> Printed
+    ensures outcome { λ r. ⌜ r ≡ printedOf (reporting (now (s .entry)) (length (now (out .entry)))) ⌝ }
+    ensures bytes { λ _. ⌜ now (out .exit) ≡ leaves (reporting (now (s .entry)) (length (now (out .entry)))) (now (out .entry)) ⌝ }
+{
+    printout::report(s, out)
+}
+
+// Hour records.
+
+// Whether some deck gives the record; where none does, the calls below refuse it with 15.
+pub fn valid(h: Hour) -> bool
+    ensures { λ r. ⌜ r ≡ given.valid h ⌝ }
+{
+    record::valid(h)
+}
+
+// The record written as a deck into lent bytes: 15, then 14.
+pub fn write(h: Hour, out: &mut [u8]) -> Written
+    ensures outcome { λ r. ⌜ r ≡ writtenOf (writing h (length (now (out .entry)))) ⌝ }
+    ensures bytes { λ _. ⌜ now (out .exit) ≡ leaves (writing h (length (now (out .entry)))) (now (out .entry)) ⌝ }
+{
+    writer::write(h, out)
+}
+
+// The hour's cells into lent ones, by the plain rule, one MWh at a time: 15, then 14, then the first group that meets 12 or 13.
+pub fn plain(h: Hour, out: &mut [i64]) -> Reconstructed
+    ensures outcome { λ r. ⌜ r ≡ reconstructedOf (reconstruction h (length (now (out .entry)))) ⌝ }
+    ensures cells { λ _. ⌜ now (out .exit) ≡ leaves (reconstruction h (length (now (out .entry)))) (now (out .entry)) ⌝ }
+{
+    reconstruct::plain(h, out)
+}
+
+// The same, by a search for the price.
+pub fn price(h: Hour, out: &mut [i64]) -> Reconstructed
+    ensures outcome { λ r. ⌜ r ≡ reconstructedOf (reconstruction h (length (now (out .entry)))) ⌝ }
+    ensures cells { λ _. ⌜ now (out .exit) ≡ leaves (reconstruction h (length (now (out .entry)))) (now (out .entry)) ⌝ }
+{
+    reconstruct::price(h, out)
+}
+
+// Curves and costs.
+
+// A curve, only from coefficients within their ranges; else 3.
+pub fn curve(k: u32, a: u32, b: u32, c: u32, r: u32) -> CurveAnswer
+    ensures { λ x. ⌜ x ≡ curveAnswer (curveMade (record { k = k; a = a; b = b; c = c; r = r })) ⌝ }
+{
+    HeatCurve::new(k, a, b, c, r)
+}
+
+// W at a level of 0 to 2,000; else 3.
+pub fn cost(c: HeatCurve, m: u32) -> CostAnswer
+    ensures { λ r. ⌜ r ≡ costAnswer (costAsked c m) ⌝ }
+{
+    curve::cost_asked(c, m)
+}
+
+// Refusals.
+
+pub fn number_of(r: Refusal) -> u64
+    ensures { λ n. ⌜ n ≡ numberOf r ⌝ }
+{
+    codes::number_of(r)
+}
+
+pub fn place_of(r: Refusal) -> usize
+    ensures { λ n. ⌜ n ≡ placeOf r ⌝ }
+{
+    codes::place_of(r)
+}

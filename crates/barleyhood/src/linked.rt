@@ -1,0 +1,170 @@
+// The calls for C: on numbers and slices, each a pointer and a length. include/barleyhood.h says what a caller needs to know.
+// An answer is a count or codes' codeOf of a refusal, which is 2^32 or more, or a label's place. The contracts cite rules' definitions, and Linked for the answer;
+// that a label stands at its place is shown in LabelsStand.
+ghost use mathlib.Core.Path.{_≡_};
+ghost use Prim.Native.Nat.{_+_, _≤_};
+ghost use lib.ListN.{length, drop};
+ghost use Rattle.rules.specs.Calls.{reporting, leaves};
+ghost use Rattle.rules.specs.Reading.{reading};
+ghost use Rattle.barleyhood.specs.Linked.{checkCode, sourcesCode, deliveriesCode, cellsOfDeck, writtenCode, answerCode, past, lineStart, labelStart, labelCode, sourcePlace, deliveryPlace};
+use hour::Verdict;
+use printout::Printed;
+use reconstruct::Reconstructed;
+use rules::Refusal;
+
+// 0 for a deck that is accepted.
+#[no_mangle]
+pub extern "C" fn barleyhood_check(s: &[u8]) -> u64
+    ensures { λ r. ⌜ r ≡ checkCode (reading (now (s .entry))) ⌝ }
+{
+    match deck::check_deck(s) {
+        Verdict::Accepted => 0,
+        Verdict::Refused(r) => codes::code_of(r),
+    }
+}
+
+// How many sources the deck has.
+#[no_mangle]
+pub extern "C" fn barleyhood_sources(s: &[u8]) -> u64
+    ensures { λ r. ⌜ r ≡ sourcesCode (reading (now (s .entry))) ⌝ }
+{
+    let x = deck::read(s);
+    let v = x.verdict;
+    let h = x.hour;
+    match v {
+        Verdict::Accepted => h.nsources as u64,
+        Verdict::Refused(r) => codes::code_of(r),
+    }
+}
+
+// How many deliveries it has.
+#[no_mangle]
+pub extern "C" fn barleyhood_deliveries(s: &[u8]) -> u64
+    ensures { λ r. ⌜ r ≡ deliveriesCode (reading (now (s .entry))) ⌝ }
+{
+    let x = deck::read(s);
+    let v = x.verdict;
+    let h = x.hour;
+    match v {
+        Verdict::Accepted => h.ndeliveries as u64,
+        Verdict::Refused(r) => codes::code_of(r),
+    }
+}
+
+fn cells_code(x: Reconstructed) -> u64
+    ensures { λ r. ⌜ r ≡ answerCode x ⌝ }
+{
+    match x {
+        Reconstructed::Cells(n) => n as u64,
+        Reconstructed::Refused(r) => codes::code_of(r),
+    }
+}
+
+// The cells of the deck's hour by a search for the price, and how many they are.
+#[no_mangle]
+pub extern "C" fn barleyhood_price(s: &[u8], out: &mut [i64]) -> u64
+    ensures code { λ r. ⌜ r ≡ writtenCode (cellsOfDeck (now (s .entry)) (length (now (out .entry)))) ⌝ }
+    ensures cells { λ _. ⌜ now (out .exit) ≡ leaves (cellsOfDeck (now (s .entry)) (length (now (out .entry)))) (now (out .entry)) ⌝ }
+{
+    let x = deck::read(s);
+    let v = x.verdict;
+    let h = x.hour;
+    match v {
+        Verdict::Accepted => cells_code(reconstruct::price(h, out)),
+        Verdict::Refused(r) => codes::code_of(r),
+    }
+}
+
+// The same, by the plain rule.
+#[no_mangle]
+pub extern "C" fn barleyhood_plain(s: &[u8], out: &mut [i64]) -> u64
+    ensures code { λ r. ⌜ r ≡ writtenCode (cellsOfDeck (now (s .entry)) (length (now (out .entry)))) ⌝ }
+    ensures cells { λ _. ⌜ now (out .exit) ≡ leaves (cellsOfDeck (now (s .entry)) (length (now (out .entry)))) (now (out .entry)) ⌝ }
+{
+    let x = deck::read(s);
+    let v = x.verdict;
+    let h = x.hour;
+    match v {
+        Verdict::Accepted => cells_code(reconstruct::plain(h, out)),
+        Verdict::Refused(r) => codes::code_of(r),
+    }
+}
+
+// The deck's report as text, and how many bytes it has.
+#[no_mangle]
+pub extern "C" fn barleyhood_report(s: &[u8], out: &mut [u8]) -> u64
+    ensures code { λ r. ⌜ r ≡ writtenCode (reporting (now (s .entry)) (length (now (out .entry)))) ⌝ }
+    ensures bytes { λ _. ⌜ now (out .exit) ≡ leaves (reporting (now (s .entry)) (length (now (out .entry)))) (now (out .entry)) ⌝ }
+{
+    match printout::report(s, out) {
+        Printed::Bytes(n) => n as u64,
+        Printed::Short => codes::code_of(Refusal::Short),
+    }
+}
+
+// The place after the next b, from a place on; the deck's end where there is none.
+fn past_byte(s: &[u8], from: usize, b: u8) -> usize
+    requires { ⌜ from ≤ length (now s) ⌝ }
+    ensures { λ r. ⌜ (r ≡ from + past b (drop from (now (s .entry)))) × (r ≤ length (now (s .entry))) ⌝ }
+{
+    let mut i = from;
+    while i < s.len() {
+        if s[i] == b {
+            return i + 1;
+        }
+        i += 1;
+    }
+    i
+}
+
+// Where line k of the deck starts.
+fn line_start(s: &[u8], k: usize) -> usize
+    ensures { λ r. ⌜ (r ≡ lineStart (now (s .entry)) k) × (r ≤ length (now (s .entry))) ⌝ }
+{
+    let mut at: usize = 0;
+    let mut j: usize = 0;
+    while j < k {
+        at = past_byte(s, at, 10);
+        j += 1;
+    }
+    at
+}
+
+// The place of a line's first label, of n bytes, as one number.
+fn label_place(s: &[u8], k: usize, n: usize) -> u64
+    requires { ⌜ (length (now s) ≤ 8192) × (n ≤ 8192) ⌝ }
+    ensures { λ r. ⌜ r ≡ labelCode (labelStart (now (s .entry)) k) n ⌝ }
+{
+    if n == 0 {
+        return 0;
+    }
+    let from = line_start(s, k);
+    let at = past_byte(s, from, 34);
+    at as u64 * 4294967296 + n as u64
+}
+
+// Where the own bytes of source i's label stand in the deck.
+#[no_mangle]
+pub extern "C" fn barleyhood_source_label(s: &[u8], i: usize) -> u64
+    ensures { λ r. ⌜ r ≡ sourcePlace (now (s .entry)) i ⌝ }
+{
+    let n = deck::source_label(s, i).len();
+    if n == 0 {
+        return 0;
+    }
+    label_place(s, i + 1, n)
+}
+
+// The same of delivery j.
+#[no_mangle]
+pub extern "C" fn barleyhood_delivery_label(s: &[u8], j: usize) -> u64
+    ensures { λ r. ⌜ r ≡ deliveryPlace (now (s .entry)) j ⌝ }
+{
+    let n = deck::delivery_label(s, j).len();
+    if n == 0 {
+        return 0;
+    }
+    let x = deck::read(s);
+    let h = x.hour;
+    label_place(s, h.nsources + j + 1, n)
+}

@@ -1,0 +1,89 @@
+/* Barleyhood splits the generation cost of one hour of a power pool among its deliveries.
+
+   Every call reads a deck, the text that states the hour, lent as its first byte and its length. A null pointer is
+   fine where the length is 0. Nothing is kept between calls and nothing is allocated, so calls may run side by side;
+   a call writes only into the cells or bytes lent to it, which must not overlap the deck. The report takes about 260 KiB of
+   the stack, a reconstruction 100 KiB, any other call less.
+
+   An answer below 2^32 is what was asked for. Any other is a refusal: its number times 2^32, and its place.
+   A refused call has written nothing. */
+#ifndef BARLEYHOOD_H
+#define BARLEYHOOD_H
+
+#include <stddef.h>
+#include <stdint.h>
+
+#ifdef __cplusplus
+extern "C" {
+#endif
+
+/* The number of a refusal, 0 for any other answer, and the refusal's place: a line of the deck, an internal sequence number, or 0. */
+#define BARLEYHOOD_NUMBER(answer) ((uint32_t)((uint64_t)(answer) >> 32))
+#define BARLEYHOOD_PLACE(answer) ((uint32_t)(answer))
+
+/* The numbers of the refusals, with the place of each. barleyhood_check tells 1 to 11, and so does every call that reads
+   the deck but barleyhood_report and the two for labels; the reconstructions go on with 14, then 12 or 13. */
+enum {
+    BARLEYHOOD_TOO_LONG = 1,     /* deck over 8,192 bytes: 0 */
+    BARLEYHOOD_FORM = 2,         /* line not of its form or out of order, LF or E missing (empty deck: line 1): line */
+    BARLEYHOOD_RANGE = 3,        /* number outside its range: line */
+    BARLEYHOOD_FULL = 4,         /* thirty-third of its class: line */
+    BARLEYHOOD_USED = 5,         /* label already used in its class: line */
+    BARLEYHOOD_LEVELS = 6,       /* unit's six levels out of order: line */
+    BARLEYHOOD_NAMES = 7,        /* D names no unit, or no delivery: line */
+    BARLEYHOOD_OTHER_BASIS = 8,  /* basis not that of the unit's earlier D line, or a number not below h: line */
+    BARLEYHOOD_PERCENTS = 9,     /* unit's percents pass 100: line */
+    BARLEYHOOD_OVERDRAWN = 10,   /* losses + deliveries above generation: 0 */
+    BARLEYHOOD_UNPLACED = 11,    /* sequence 0 and no delivery to place it by: first such T line */
+    BARLEYHOOD_NO_ROOM = 12,     /* last-step floors leave too little room: internal number */
+    BARLEYHOOD_NO_HEADROOM = 13, /* too little headroom for a credit: internal number */
+    BARLEYHOOD_SHORT = 14        /* lent buffer too short: 0 */
+};
+
+/* 0 for a deck that is accepted. */
+uint64_t barleyhood_check(const uint8_t *deck, size_t length);
+
+/* How many sources, and how many deliveries, an accepted deck has: 0 to 32 of each. */
+uint64_t barleyhood_sources(const uint8_t *deck, size_t length);
+uint64_t barleyhood_deliveries(const uint8_t *deck, size_t length);
+
+/* The cells of the deck's hour, written from the first lent one on, and how many they are; the lent cells after them
+   stay as they are. For each delivery, then each source, in deck order, there are four: direct MWh, incremental MWh,
+   direct cost, incremental cost. After all of them come two for each source: open MWh, open cost. A cost is in grains,
+   20,000,000 to the dollar; a credit is negative. With fewer cells lent than there are to write the call is refused (14);
+   BARLEYHOOD_CELLS are always enough. */
+uint64_t barleyhood_price(const uint8_t *deck, size_t length, int64_t *cells, size_t lent);
+
+/* The same cells, found by moving one MWh at a time instead of by a search for the price: slower, never different. */
+uint64_t barleyhood_plain(const uint8_t *deck, size_t length, int64_t *cells, size_t lent);
+
+/* The deck's report as text, written from the first lent byte on, and how many bytes it has, with no 0 after them; the lent
+   bytes after it stay as they are. A deck that is refused has a report too, of the one line `refused NUMBER PLACE`. So the only
+   refusal is 14, where fewer bytes are lent than there are to write; BARLEYHOOD_REPORT are always enough. */
+uint64_t barleyhood_report(const uint8_t *deck, size_t length, uint8_t *text, size_t lent);
+
+/* The most bytes that a deck may have, the most cells of an hour (32 deliveries by 32 sources by 4, and 32 by 2), and a number of
+   bytes that no report passes. */
+#define BARLEYHOOD_DECK 8192
+#define BARLEYHOOD_CELLS 4160
+#define BARLEYHOOD_REPORT 131072
+
+/* Among the cells: the first of the four of a delivery and a source, and the first of a source's two open ones.
+   Sources and deliveries are counted from 0; the capital letters stand for how many the deck has. */
+#define BARLEYHOOD_PAIR(SOURCES, delivery, source) (((size_t)(delivery) * (SOURCES) + (source)) * 4)
+#define BARLEYHOOD_OPEN(SOURCES, DELIVERIES, source) ((size_t)(DELIVERIES) * (SOURCES) * 4 + (size_t)(source) * 2)
+
+/* Where the label of a source, or of a delivery, counted from 0, stands in the deck: its bytes between the quotes, with
+   \" and \\ as the deck writes them. The answer is the offset of the first byte times 2^32, and the number of bytes, 1 to 32;
+   it is 0 for an entry that the deck lacks and for a deck that is refused. No refusal comes from these two. */
+uint64_t barleyhood_source_label(const uint8_t *deck, size_t length, size_t source);
+uint64_t barleyhood_delivery_label(const uint8_t *deck, size_t length, size_t delivery);
+
+#define BARLEYHOOD_OFFSET(label) ((uint32_t)((uint64_t)(label) >> 32))
+#define BARLEYHOOD_LENGTH(label) ((uint32_t)(label))
+
+#ifdef __cplusplus
+}
+#endif
+
+#endif
