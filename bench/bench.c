@@ -29,6 +29,12 @@ static uint64_t c_read(void) {
     return r.number + h.sources;
 }
 
+static uint64_t c_read_plainly(void) {
+    struct hour h = {0};
+    struct refusal r = read_plainly(deck, size, &h);
+    return r.number + h.sources;
+}
+
 static uint64_t c_cells(int by_price) {
     struct hour h = {0};
     struct refusal r = read_deck(deck, size, &h);
@@ -80,7 +86,8 @@ static void table(const char *name) {
     size = fread(deck, 1, DECK, f);
     fclose(f);
     printf("\n%s, %zu bytes:\n\n| work | proved, ns | C, ns | ratio |\n|---|---|---|---|\n", name, size);
-    row("reading", proved_read, c_read);
+    row("reading, beside a plain reader", proved_read, c_read_plainly);
+    row("reading, beside one written for speed", proved_read, c_read);
     row("deck to cells, by price", proved_price, c_price);
     row("deck to cells, one MWh at a time", proved_plain, c_plain);
     row("deck to report", proved_report, c_report);

@@ -193,7 +193,7 @@ static struct refusal finished(const struct hour *h) {
     return (struct refusal){0, 0};
 }
 
-struct refusal read_deck(const uint8_t *s, size_t n, struct hour *h) {
+struct refusal read_plainly(const uint8_t *s, size_t n, struct hour *h) {
     struct cursor c = {s, s + n};
     if (n > 8192)
         return (struct refusal){1, 0};

@@ -45,4 +45,7 @@ struct refusal {
 /* Number 0 where the deck is accepted; *h is then its hour, entries past the counts as they were. */
 struct refusal read_deck(const uint8_t *s, size_t n, struct hour *h);
 
+/* The same, plainly written. */
+struct refusal read_plainly(const uint8_t *s, size_t n, struct hour *h);
+
 #endif
