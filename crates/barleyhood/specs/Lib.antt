@@ -1,4 +1,3 @@
 pub mod Linked
 pub mod Told
-pub mod LabelsStand
-pub mod Places
+pub mod OneOutcome

@@ -1,19 +1,15 @@
--- The calls for C: what a deck comes to as one number, a count, a refusal's code or a label's place.
-use mathlib.Core.List.{List, [], _∷_}
-use Prim.Native.Nat.{ℕ, zero, suc, _+_, _*_}
-use lib.Dec.{eqb}
+-- The calls for C: what a deck comes to as one number, a count or a refusal's code.
+use mathlib.Core.List.{List}
+use Prim.Native.Nat.{ℕ}
 use lib.IntN.{ℤ}
-use lib.ListN.{length, drop}
+use lib.ListN.{length}
 use Rattle.codes.specs.Codes.{codeOf}
 use Rattle.reconstruct.specs.declared.Reconstructed.{Reconstructed}
 use Rattle.reconstruct.specs.declared.Reconstructed.the-variants.{Cells, Refused}
-use Rattle.rules.specs.Calls.{reconstruction, sourcePart, deliveryPart}
+use Rattle.rules.specs.Calls.{reconstruction}
 use Rattle.rules.specs.Reading.{reading}
 use Rattle.rules.specs.Refusals.{Outcome, accepted, refused, andThen}
-use Rattle.rules.specs.Words.{if_then_else_}
 use Rattle.rules.specs.declared.Hour.{Hour}
-
--- Counts and refusals.
 
 abbrev pub checkCode : Outcome Hour → ℕ
 checkCode (accepted h) = 0
@@ -39,34 +35,3 @@ writtenCode (refused r) = codeOf r
 abbrev pub answerCode : Reconstructed → ℕ
 answerCode (Cells n) = n
 answerCode (Refused r) = codeOf r
-
--- Labels' places.
-
--- how many bytes there are up to the first b and with it; all of them where there is none
-unfoldable pub past : ℕ → List ℕ → ℕ
-past b [] = 0
-past b (x ∷ xs) = if eqb x b then 1 else suc (past b xs)
-
--- where a line starts, the first being line 0: each ends in LF (10)
-unfoldable pub lineStart : List ℕ → ℕ → ℕ
-lineStart s zero = 0
-lineStart s (suc k) = lineStart s k + past 10 (drop (lineStart s k) s)
-
--- where a line's first label starts: after its first quote
-unfoldable pub labelStart : List ℕ → ℕ → ℕ
-labelStart s k = lineStart s k + past 34 (drop (lineStart s k) s)
-
--- a label's place as one number: where its bytes start, times 2^32, and how many they are; 0 where there are none
-abbrev pub labelCode : ℕ → ℕ → ℕ
-labelCode start n = if eqb n 0 then 0 else start * 4_294_967_296 + n
-
-abbrev pub sourcesOf : Outcome Hour → ℕ
-sourcesOf (accepted h) = h .nsources
-sourcesOf (refused r) = 0
-
--- "one H, then sources in any mix, then T lines": source i stands on line i + 1, and delivery j as far after the sources
-abbrev pub sourcePlace : List ℕ → ℕ → ℕ
-sourcePlace s i = labelCode (labelStart s (i + 1)) (length (sourcePart s i))
-
-abbrev pub deliveryPlace : List ℕ → ℕ → ℕ
-deliveryPlace s j = labelCode (labelStart s (sourcesOf (reading s) + j + 1)) (length (deliveryPart s j))

@@ -19,7 +19,7 @@ use Rattle.codes.specs.Codes.{codeOf}
 use Rattle.hour.specs.Tried.{verdictOf}
 use Rattle.hour.specs.declared.Verdict.{Verdict}
 use Rattle.hour.specs.declared.Verdict.the-variants.{Accepted, Refused}
-use Rattle.deck.specs.Answers.{readAnswer}
+use Rattle.deck.specs.Answers.{readAnswer, read-accepted, read-refused}
 use Rattle.deck.specs.declared.ReadHour.{ReadHour}
 use Rattle.reconstruct.specs.Answers.{reconstructedOf}
 use Rattle.reconstruct.specs.declared.Reconstructed.{Reconstructed}
@@ -47,14 +47,6 @@ module _ (s : List ℕ) (v : Verdict) (e : v ≡ verdictOf (reading s)) where
   check-refused r p = ap checkCode (sym (verdict-refused (reading s) r (sym e ∙ p)))
 
 -- A deck that is read.
-
-read-accepted : (o : Outcome Hour) (x : ReadHour) → x ≡ readAnswer o → x .verdict ≡ Accepted → accepted (x .hour) ≡ o
-read-accepted (accepted h) x e p = ap (λ (y : ReadHour). accepted (y .hour)) e
-read-accepted (refused r) x e p = let z : _≡_ {A = ℕ} 0 1 = cc in absurd (omega arith)
-
-read-refused : (o : Outcome Hour) (x : ReadHour) (r : Refusal) → x ≡ readAnswer o → x .verdict ≡ Refused r → refused r ≡ o
-read-refused (accepted h) x r e p = let z : _≡_ {A = ℕ} 0 1 = cc in absurd (omega arith)
-read-refused (refused q) x r e p = let k : q ≡ r = cc in ap refused (sym k)
 
 answer-code : (o : Outcome (List ℤ)) → answerCode (reconstructedOf o) ≡ writtenCode o
 answer-code (accepted xs) = refl

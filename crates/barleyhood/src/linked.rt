@@ -1,12 +1,12 @@
 // The calls for C: on numbers and slices, each a pointer and a length. include/barleyhood.h says what a caller needs to know.
-// An answer is a count or codes' codeOf of a refusal, which is 2^32 or more, or a label's place. The contracts cite rules' definitions, and Linked for the answer;
-// that a label stands at its place is shown in LabelsStand.
+// An answer is a count or codes' codeOf of a refusal, which is 2^32 or more, or a label's place. The contracts cite rules' definitions, Linked for the answer
+// and places' for a label's place.
 ghost use mathlib.Core.Path.{_≡_};
-ghost use Prim.Native.Nat.{_+_, _≤_};
-ghost use lib.ListN.{length, drop};
+ghost use lib.ListN.{length};
 ghost use Rattle.rules.specs.Calls.{reporting, leaves};
 ghost use Rattle.rules.specs.Reading.{reading};
-ghost use Rattle.barleyhood.specs.Linked.{checkCode, sourcesCode, deliveriesCode, cellsOfDeck, writtenCode, answerCode, past, lineStart, labelStart, labelCode, sourcePlace, deliveryPlace};
+ghost use Rattle.barleyhood.specs.Linked.{checkCode, sourcesCode, deliveriesCode, cellsOfDeck, writtenCode, answerCode};
+ghost use Rattle.places.specs.Places.{sourcePlace, deliveryPlace};
 use hour::Verdict;
 use printout::Printed;
 use reconstruct::Reconstructed;
@@ -102,57 +102,12 @@ pub extern "C" fn barleyhood_report(s: &[u8], out: &mut [u8]) -> u64
     }
 }
 
-// The place after the next b, from a place on; the deck's end where there is none.
-fn past_byte(s: &[u8], from: usize, b: u8) -> usize
-    requires { ⌜ from ≤ length (now s) ⌝ }
-    ensures { λ r. ⌜ (r ≡ from + past b (drop from (now (s .entry)))) × (r ≤ length (now (s .entry))) ⌝ }
-{
-    let mut i = from;
-    while i < s.len() {
-        if s[i] == b {
-            return i + 1;
-        }
-        i += 1;
-    }
-    i
-}
-
-// Where line k of the deck starts.
-fn line_start(s: &[u8], k: usize) -> usize
-    ensures { λ r. ⌜ (r ≡ lineStart (now (s .entry)) k) × (r ≤ length (now (s .entry))) ⌝ }
-{
-    let mut at: usize = 0;
-    let mut j: usize = 0;
-    while j < k {
-        at = past_byte(s, at, 10);
-        j += 1;
-    }
-    at
-}
-
-// The place of a line's first label, of n bytes, as one number.
-fn label_place(s: &[u8], k: usize, n: usize) -> u64
-    requires { ⌜ (length (now s) ≤ 8192) × (n ≤ 8192) ⌝ }
-    ensures { λ r. ⌜ r ≡ labelCode (labelStart (now (s .entry)) k) n ⌝ }
-{
-    if n == 0 {
-        return 0;
-    }
-    let from = line_start(s, k);
-    let at = past_byte(s, from, 34);
-    at as u64 * 4294967296 + n as u64
-}
-
 // Where the own bytes of source i's label stand in the deck.
 #[no_mangle]
 pub extern "C" fn barleyhood_source_label(s: &[u8], i: usize) -> u64
     ensures { λ r. ⌜ r ≡ sourcePlace (now (s .entry)) i ⌝ }
 {
-    let n = deck::source_label(s, i).len();
-    if n == 0 {
-        return 0;
-    }
-    label_place(s, i + 1, n)
+    places::source_place(s, i)
 }
 
 // The same of delivery j.
@@ -160,11 +115,5 @@ pub extern "C" fn barleyhood_source_label(s: &[u8], i: usize) -> u64
 pub extern "C" fn barleyhood_delivery_label(s: &[u8], j: usize) -> u64
     ensures { λ r. ⌜ r ≡ deliveryPlace (now (s .entry)) j ⌝ }
 {
-    let n = deck::delivery_label(s, j).len();
-    if n == 0 {
-        return 0;
-    }
-    let x = deck::read(s);
-    let h = x.hour;
-    label_place(s, h.nsources + j + 1, n)
+    places::delivery_place(s, j)
 }

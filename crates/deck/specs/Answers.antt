@@ -1,7 +1,8 @@
 -- What the deck's readers answer where the rules say what a deck comes to.
-use mathlib.Core.Path.{_≡_}
+use mathlib.Core.Path.{_≡_, ap, sym}
 use mathlib.Core.List.{List}
 use Prim.Native.Nat.{ℕ, _≤_}
+use native.Mathlib.Omega.{arith}
 use lib.ListN.{length, getD, replicate}
 use Rattle.rules.specs.Refusals.{Outcome, accepted, refused}
 use Rattle.rules.specs.Fields.{bytesAt}
@@ -18,6 +19,15 @@ use Rattle.deck.specs.declared.ReadHour.{ReadHour}
 abbrev pub readAnswer : Outcome Hour → ReadHour
 readAnswer (accepted h) = record { verdict = Accepted; hour = h }
 readAnswer (refused r) = record { verdict = Refused r; hour = started 0 }
+
+-- which outcome an answer tells
+pub read-accepted : (o : Outcome Hour) (x : ReadHour) → x ≡ readAnswer o → x .verdict ≡ Accepted → accepted (x .hour) ≡ o
+read-accepted (accepted h) x e p = ap (λ (y : ReadHour). accepted (y .hour)) e
+read-accepted (refused r) x e p = let z : _≡_ {A = ℕ} 0 1 = cc in absurd (omega arith)
+
+pub read-refused : (o : Outcome Hour) (x : ReadHour) (r : Refusal) → x ≡ readAnswer o → x .verdict ≡ Refused r → refused r ≡ o
+read-refused (accepted h) x r e p = let z : _≡_ {A = ℕ} 0 1 = cc in absurd (omega arith)
+read-refused (refused q) x r e p = let k : q ≡ r = cc in ap refused (sym k)
 
 -- Places.
 

@@ -1,19 +1,22 @@
 -- What a group takes of each source, in two tables: four sizes and four signs a source.
-use mathlib.Core.Bool.{Bool, false}
+use mathlib.Core.Bool.{Bool, false, not, _&&_}
 use mathlib.Core.List.{List}
 use mathlib.Core.Logic.{_≢_}
-use mathlib.Core.Path.{_≡_, refl, ap, _∙_}
+use mathlib.Core.Path.{_≡_, refl, sym, ap, _∙_}
 use Prim.Native.Nat.{ℕ, zero, suc, _+_, _-_, _*_, _/_, _≤_, _<_}
+use native.Mathlib.Decide.{decLt}
 use native.Mathlib.Nat.{add-zero}
 use native.Mathlib.Omega.{arith}
-use lib.Dec.{ltb}
-use lib.ListN.{length, getD, set, length-set}
+use borrow.Author.Tests.{eqb-true, le-ltb}
+use lib.Dec.{ltb, eqb}
+use lib.ListN.{length, getD, set, replicate, length-set, getD-replicate, List·getD-eq-default}
 use lib.Seq.{getD-set-same, getD-set-other}
+use Rattle.laws.specs.Choices.{both-true, not-false}
 use Rattle.laws.specs.Sums.{below-suc}
 use Rattle.members.specs.Shared.{placeOf, place-small, SourceRun}
 use Rattle.merit.specs.LevelNeverBelowB.{stateAt}
 use Rattle.merit.specs.NumbersStaySmall.{level-small, changed-small, paid-small}
-use Rattle.rules.specs.Group.{level, changed, Item, directMwh, incrementalMwh, directCost, incrementalCost, Amount, amount}
+use Rattle.rules.specs.Group.{level, changed, Item, directMwh, incrementalMwh, directCost, incrementalCost, Amount, amount, withOpen}
 use Rattle.rules.specs.declared.Running.{Running}
 
 -- four entries from `at` on, by item
@@ -72,6 +75,9 @@ module _ {A : Type 0} (xs : List A) (at : ℕ) (f : Item → A) (d : A) where
   setFour-before : (q : ℕ) → q < at → getD (setFour xs at f) q d ≡ getD xs q d
   setFour-before q h = off-four q (omega arith) ∙ off-three q (omega arith) ∙ off-two q (omega arith) ∙ off-one q (omega arith)
 
+  setFour-after : (q : ℕ) → at + 4 ≤ q → getD (setFour xs at f) q d ≡ getD xs q d
+  setFour-after q h = off-four q (omega arith) ∙ off-three q (omega arith) ∙ off-two q (omega arith) ∙ off-one q (omega arith)
+
 -- four entries more
 fours-more : {A : Type 0} (f : ℕ → Item → A) (d : A) (n : ℕ) (xs ys : List A) → n * 4 + 4 ≤ length xs → ((i : ℕ) (item : Item) → i < n → getD xs (i * 4 + placeOf item) d ≡ f i item)
     → ys ≡ setFour xs (n * 4) (f n) → (i : ℕ) (item : Item) → i < n + 1 → getD ys (i * 4 + placeOf item) d ≡ f i item
@@ -97,6 +103,81 @@ module _ (ss ts us : List Running) where
 
   pub amounts-all : (n i : ℕ) (sizes : List ℕ) (minus : List Bool) → i ≤ n → n ≤ i → Amounts ss ts us i sizes minus → Amounts ss ts us n sizes minus
   amounts-all n i sizes minus l m a = let e : i ≡ n = omega arith in rw e at a
+
+-- The sources of which something is taken: the others' entries stay 0.
+
+-- whether anything is
+unfoldable pub someTaken : Running → Running → Running → Bool
+someTaken s t u = not (eqb (t .d) (s .d) && (eqb (t .paid) (s .paid) && eqb (t .v) (u .v)))
+
+-- nothing is
+pub record Untaken (s t u : Running) : Type 0 where
+  pub mwh : t .d ≡ s .d
+  pub paid : t .paid ≡ s .paid
+  pub left : t .v ≡ u .v
+
+pub untaken : (s t u : Running) → someTaken s t u ≡ false → Untaken s t u
+unfolding someTaken
+untaken s t u e =
+    let a = both-true (eqb (t .d) (s .d)) (eqb (t .paid) (s .paid) && eqb (t .v) (u .v)) (not-false (eqb (t .d) (s .d) && (eqb (t .paid) (s .paid) && eqb (t .v) (u .v))) e) in
+    let b = both-true (eqb (t .paid) (s .paid)) (eqb (t .v) (u .v)) (a .1) in
+    record { mwh = eqb-true _ _ (a .0); paid = eqb-true _ _ (b .0); left = eqb-true _ _ (b .1) }
+
+-- a remainder renews v alone, so the cost at the level stays too
+no-amount : (s t u : Running) (v : ℕ) → u ≡ withOpen t v → Untaken s t u → (item : Item) → (amount item s t u .size ≡ 0) × (amount item s t u .minus ≡ false)
+no-amount s t u v e n item = rw (same v e (n .left)) (go item)
+  where
+    same : (v : ℕ) → u ≡ withOpen t v → t .v ≡ u .v → u ≡ t
+    same v e z = e ∙ ap (withOpen t) (sym (ap (λ (r : Running). r .v) e) ∙ sym z)
+
+    go : (item : Item) → (amount item s t t .size ≡ 0) × (amount item s t t .minus ≡ false)
+    go directMwh = (omega (arith, n .mwh), refl)
+    go incrementalMwh = (omega arith, le-ltb (level t) (level t) (omega arith))
+    go directCost = (omega (arith, n .paid), refl)
+    go incrementalCost = (omega arith, le-ltb (changed t (level t)) (changed t (level t)) (omega arith))
+
+-- the first i sources' amounts, and nothing from the others
+pub record AmountsSoFar (ss ts us : List Running) (i : ℕ) (sizes : List ℕ) (minus : List Bool) : Type 0 where
+  pub amounts : Amounts ss ts us i sizes minus
+  pub no-size : (q : ℕ) → i * 4 ≤ q → getD sizes q 0 ≡ 0
+  pub no-sign : (q : ℕ) → i * 4 ≤ q → getD minus q false ≡ false
+
+blank : {A : Type 0} (q : ℕ) (d : A) → getD (replicate 128 d) q d ≡ d
+blank q d = elim (decLt q 128) [ yes l ↦ getD-replicate 128 q d d l | no l ↦ List·getD-eq-default (replicate 128 d) d {n = q} (omega arith) ]
+
+module _ (ss ts us : List Running) where
+  pub so-far-none : AmountsSoFar ss ts us 0 (replicate 128 0) (replicate 128 false)
+  so-far-none = record { amounts = amounts-none ss ts us _ _ refl refl; no-size = λ q l. blank q 0; no-sign = λ q l. blank q false }
+
+  pub so-far-more : (i : ℕ) (sizes sizes′ : List ℕ) (minus minus′ : List Bool) → i < 32 → AmountsSoFar ss ts us i sizes minus
+      → sizes′ ≡ setFour sizes (i * 4) (λ item. taken ss ts us i item .size)
+      → minus′ ≡ setFour minus (i * 4) (λ item. taken ss ts us i item .minus) → AmountsSoFar ss ts us (i + 1) sizes′ minus′
+  so-far-more i sizes sizes′ minus minus′ h a e z = record {
+    amounts = amounts-more ss ts us i sizes sizes′ minus minus′ h (a .amounts) e z;
+    no-size = λ q l. ap (λ (xs : List ℕ). getD xs q 0) e ∙ setFour-after sizes (i * 4) (λ item. taken ss ts us i item .size) 0 q (omega arith) ∙ a .no-size q (omega arith);
+    no-sign = λ q l. ap (λ (xs : List Bool). getD xs q false) z ∙ setFour-after minus (i * 4) (λ item. taken ss ts us i item .minus) false q (omega arith) ∙ a .no-sign q (omega arith);
+  }
+
+  -- a source of which nothing is taken
+  pub so-far-skip : (i v : ℕ) (sizes : List ℕ) (minus : List Bool) → AmountsSoFar ss ts us i sizes minus → stateAt us i ≡ withOpen (stateAt ts i) v
+      → someTaken (stateAt ss i) (stateAt ts i) (stateAt us i) ≡ false → AmountsSoFar ss ts us (i + 1) sizes minus
+  so-far-skip i v sizes minus a e n =
+      let none = no-amount (stateAt ss i) (stateAt ts i) (stateAt us i) v e (untaken _ _ _ n) in
+      record {
+        amounts = record {
+          sizes-long = a .amounts .sizes-long;
+          minus-long = a .amounts .minus-long;
+          size = λ k item l. below-suc (λ k. getD sizes (k * 4 + placeOf item) 0 ≡ taken ss ts us k item .size) i
+              (λ k m. a .amounts .size k item m) (a .no-size _ (omega arith) ∙ sym (none item .0)) k (omega arith);
+          sign = λ k item l. below-suc (λ k. getD minus (k * 4 + placeOf item) false ≡ taken ss ts us k item .minus) i
+              (λ k m. a .amounts .sign k item m) (a .no-sign _ (omega arith) ∙ sym (none item .1)) k (omega arith);
+        };
+        no-size = λ q l. a .no-size q (omega arith);
+        no-sign = λ q l. a .no-sign q (omega arith);
+      }
+
+  pub so-far-all : (n i : ℕ) (sizes : List ℕ) (minus : List Bool) → i ≤ n → n ≤ i → AmountsSoFar ss ts us i sizes minus → Amounts ss ts us n sizes minus
+  so-far-all n i sizes minus l m a = amounts-all ss ts us n i sizes minus l m (a .amounts)
 
 -- a source's four entries, as the code makes them
 module _ (s t u : Running) (at x y wx wy : ℕ) where

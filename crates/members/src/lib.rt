@@ -8,7 +8,7 @@ ghost use Prim.Native.Nat.{_+_, _-_, _*_, _≤_, _<_};
 ghost use Rattle.rules.specs.Group.{amount, upTo};
 ghost use Rattle.rules.specs.Hour.{scheduled};
 ghost use Rattle.members.specs.Shared.{DeliveriesSmall, SourceRun, SourceRuns, GroupGiven, SharedInto};
-ghost use Rattle.members.specs.Amounts.{setFour};
+ghost use Rattle.members.specs.Amounts.{setFour, someTaken};
 ghost use Rattle.members.specs.Rows.{SizesSmall, RowFits, Row};
 ghost use Rattle.members.specs.Members.{RowsShared};
 
@@ -38,6 +38,19 @@ fn distance(x: u64, y: u64) -> u64
         return y - x;
     }
     x - y
+}
+
+// Whether the group takes anything from a source.
+pub fn takes(s: Running, t: Running, u: Running) -> bool
+    ensures { λ r. ⌜ r ≡ someTaken s t u ⌝ }
+{
+    if t.d != s.d {
+        return true;
+    }
+    if t.paid != s.paid {
+        return true;
+    }
+    t.v != u.v
 }
 
 // What the group takes from source i: its amounts' sizes and signs.

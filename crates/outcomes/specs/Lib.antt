@@ -3,3 +3,4 @@ pub mod TwoCallsAgree
 pub mod RefusedCallsChangeNothing
 pub mod AccountsCloseOverTheCells
 pub mod WrongReconstructors
+pub mod CodesTell

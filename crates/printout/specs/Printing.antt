@@ -20,8 +20,7 @@ use Rattle.rules.specs.declared.Hour.{Hour}
 use Rattle.rules.specs.declared.InternalSequence.{InternalSequence}
 use Rattle.rules.specs.declared.Refusal.{Refusal}
 use Rattle.hour.specs.declared.Verdict.the-variants.{Accepted, Refused}
-use Rattle.deck.specs.Answers.{readAnswer, Scanned}
-use Rattle.deck.specs.declared.ReadHour.{ReadHour}
+use Rattle.deck.specs.Answers.{read-accepted, read-refused, Scanned}
 use Rattle.deck.specs.declared.ScannedDeck.{ScannedDeck}
 use Rattle.sequence.specs.Placings.{placings, placings-same}
 use Rattle.reconstruct.specs.Answers.{reconstructedOf}
@@ -42,21 +41,10 @@ printedOf (refused r) = Short
 
 module _ (deck : List ℕ) (x : ScannedDeck) (s : Scanned deck (reading deck) x) where
   pub scanned-refused : (r : Refusal) → x .verdict ≡ Refused r → reading deck ≡ refused r
-  scanned-refused r v = go (reading deck) (s .answer)
-    where
-      go : (t : Outcome Hour) → record { verdict = x .verdict; hour = x .hour } ≡ readAnswer t → t ≡ refused r
-      go (accepted h) e = let a : x .verdict ≡ Accepted = ap (λ (y : ReadHour). y .verdict) e in let z : _≡_ {A = ℕ} 0 1 = cc in absurd (omega arith)
-      go (refused q) e =
-          let a : x .verdict ≡ Refused q = ap (λ (y : ReadHour). y .verdict) e in
-          let z : q ≡ r = cc in
-          ap refused z
+  scanned-refused r v = sym (read-refused (reading deck) (record { verdict = x .verdict; hour = x .hour }) r (s .answer) v)
 
   pub scanned-accepted : x .verdict ≡ Accepted → reading deck ≡ accepted (x .hour)
-  scanned-accepted v = go (reading deck) (s .answer)
-    where
-      go : (t : Outcome Hour) → record { verdict = x .verdict; hour = x .hour } ≡ readAnswer t → t ≡ accepted (x .hour)
-      go (accepted h) e = ap accepted (sym (ap (λ (y : ReadHour). y .hour) e))
-      go (refused q) e = let a : x .verdict ≡ Refused q = ap (λ (y : ReadHour). y .verdict) e in let z : _≡_ {A = ℕ} 0 1 = cc in absurd (omega arith)
+  scanned-accepted v = sym (read-accepted (reading deck) (record { verdict = x .verdict; hour = x .hour }) (s .answer) v)
 
 -- What was reconstructed, of a valid hour into as many cells as any has.
 

@@ -36,8 +36,8 @@ use Rattle.laws.specs.Sums.{listTo-length}
 use Rattle.roundtrip.specs.AcceptedIsWriting.{reading-stands}
 use Rattle.roundtrip.specs.Labels.{label-from}
 use Rattle.record.specs.Turns.{labels-append}
-use Rattle.barleyhood.specs.Linked as linked
-use Rattle.barleyhood.specs.Linked.{past, lineStart, labelStart, sourcesOf}
+use Rattle.places.specs.Places as places
+use Rattle.places.specs.Places.{past, lineStart, labelStart, sourcesOf}
 
 -- What stands after the first b.
 
@@ -54,12 +54,12 @@ free-append b [] ys f g = g
 free-append b (x ∷ xs) ys f g = (f .0, free-append b xs ys (f .1) g)
 
 after-free : (b : ℕ) (xs t : List ℕ) → Free b xs → after b (xs ++ t) ≡ after b t
-unfolding linked.past
+unfolding places.past
 after-free b [] t f = refl
 after-free b (x ∷ xs) t f = rw (ne-eqb x b (f .0)) (after-free b xs t (f .1))
 
 after-found : (b : ℕ) (t : List ℕ) → after b (b ∷ t) ≡ t
-unfolding linked.past
+unfolding places.past
 after-found b t = rw (eq-eqb b b refl)
 
 digitsIn-free : (b : ℕ) → b < 48 → (f v : ℕ) → Free b (digitsIn f v)
@@ -157,7 +157,7 @@ source-first x = go (x .plant)
 -- The lines of the deck.
 
 start-next : (s : List ℕ) (k : ℕ) → drop (lineStart s (suc k)) s ≡ after 10 (drop (lineStart s k) s)
-unfolding linked.lineStart
+unfolding places.lineStart
 start-next s k = sym (drop-drop (past 10 (drop (lineStart s k) s)) (lineStart s k) s)
 
 lines-passed : (s : List ℕ) (xs ys : List Line) (rest : List ℕ) (k : ℕ) → allLabelled xs ≡ true → drop (lineStart s k) s ≡ texts (xs ++ ys) rest
@@ -172,12 +172,12 @@ lines-passed s (x ∷ xs) ys rest k e d =
 
 module _ (s : List ℕ) (h : Hour) (e : reading s ≡ accepted h) where
   first-passed : drop (lineStart s 1) s ≡ texts (body h) (lineText endLine [])
-  unfolding linked.lineStart writing.deckText lines.labelled
+  unfolding places.lineStart writing.deckText lines.labelled
   first-passed = start-next s 0 ∙ ap (after 10) (reading-stands s h e .text) ∙ line-after (headLine h) (texts (body h) (lineText endLine [])) refl
 
   entry-stands : (xs : List Line) (l : Line) (ys : List Line) (cs : Chars) → body h ≡ xs ++ (l ∷ ys) → FirstLabel l cs
       → take (length (escape cs)) (drop (labelStart s (1 + length xs)) s) ≡ escape cs
-  unfolding linked.labelStart writing.texts
+  unfolding places.labelStart writing.texts
   entry-stands xs l ys cs b f =
       let rest = texts ys (lineText endLine []) in
       let own = sym (labels-append xs (l ∷ ys)) ∙ ap allLabelled (sym b) ∙ reading-stands s h e .own .labels in

@@ -4,11 +4,11 @@ use mathlib.Core.List.{List}
 use Prim.Native.Nat.{ℕ, _+_}
 use native.Mathlib.Omega.{arith}
 use lib.ListN.{length}
-use Rattle.barleyhood.specs.Linked.{labelStart, labelCode}
-use Rattle.barleyhood.specs.Places.{label-none, source-told}
+use Rattle.places.specs.Places.{labelStart, labelCode}
+use Rattle.places.specs.Walk.{label-none, source-told}
 use borrow.Author.Needs.{needs}
-use Rattle.barleyhood.proofs.linked.barleyhood_source_label.Statement.{statement}
-use Rattle.barleyhood.proofs.linked.barleyhood_source_label.Tie as tie
+use Rattle.places.proofs.source_place.Statement.{statement}
+use Rattle.places.proofs.source_place.Tie as tie
 
 source-label-requires : tie.Need-source-label-requires
 source-label-requires c κs = search needs
@@ -29,6 +29,6 @@ returns-2 c =
     let a = c .before .before .before .before .args in
     c .label-place .ensures ∙ ap (λ (p : List ℕ). labelCode (labelStart (a .s .now) (a .i + 1)) (length p)) (c .before .before .source-label .ensures)
 
-pub barleyhood-source-label-spec : {M : Type 1} → statement M
-barleyhood-source-label-spec =
+pub source-place-spec : {M : Type 1} → statement M
+source-place-spec =
     tie.close (tie.spec source-label-requires returns add-label-place label-place-requires returns-2)

@@ -16,27 +16,27 @@ use Rattle.roundtrip.specs.DeckAtMost7018.{accepted-at-most}
 use Rattle.roundtrip.specs.GivenHour.{accepted-given}
 use Rattle.deck.specs.Answers.{readAnswer}
 use Rattle.deck.specs.declared.ReadHour.{ReadHour}
-use Rattle.barleyhood.specs.Linked as linked
-use Rattle.barleyhood.specs.Linked.{past, lineStart, labelStart, labelCode, sourcesOf}
-use Rattle.barleyhood.specs.LabelsStand.{partOf, part-found, sourceText, deliveryText, source-part, delivery-part, source-stands, delivery-stands}
+use Rattle.places.specs.Places as places
+use Rattle.places.specs.Places.{past, lineStart, labelStart, labelCode, sourcesOf}
+use Rattle.places.specs.LabelsStand.{partOf, part-found, sourceText, deliveryText, source-part, delivery-part, source-stands, delivery-stands}
 
 -- One byte further: the walk to the first b from a place on.
 
 module _ (b : ℕ) (s : List ℕ) (from i : ℕ) (inv : i + past b (drop i s) ≡ from + past b (drop from s)) where
   pub walk-found : i < length s → getD s i 0 ≡ b → (i + 1 ≡ from + past b (drop from s)) × (i + 1 ≤ length s)
-  unfolding linked.past
+  unfolding places.past
   walk-found l e =
       let k : past b (drop i s) ≡ 1 = rw (drop-cons s i 0 l, eq-eqb (getD s i 0) b e) in
       (omega arith, omega arith)
 
   pub walk-on : i < length s → (getD s i 0 ≡ b → ⊥) → i + 1 + past b (drop (i + 1) s) ≡ from + past b (drop from s)
-  unfolding linked.past
+  unfolding places.past
   walk-on l e =
       let k : past b (drop i s) ≡ suc (past b (drop (i + 1) s)) = rw (drop-cons s i 0 l, ne-eqb (getD s i 0) b e, add-one) in
       omega arith
 
   pub walk-ended : i ≤ length s → length s ≤ i → (i ≡ from + past b (drop from s)) × (i ≤ length s)
-  unfolding linked.past
+  unfolding places.past
   walk-ended w l =
       let k : past b (drop i s) ≡ 0 = rw (drop-of-length-le s l) in
       (omega arith, w)
@@ -44,17 +44,17 @@ module _ (b : ℕ) (s : List ℕ) (from i : ℕ) (inv : i + past b (drop i s) �
 -- One line further.
 
 pub start-none : (s : List ℕ) → 0 ≡ lineStart s 0
-unfolding linked.lineStart
+unfolding places.lineStart
 start-none s = refl
 
 pub start-more : (s : List ℕ) (k at next : ℕ) → at ≡ lineStart s k → next ≡ at + past 10 (drop at s) → next ≡ lineStart s (k + 1)
-unfolding linked.lineStart
+unfolding places.lineStart
 start-more s k at next e f = rw add-one (f ∙ ap (λ (m : ℕ). m + past 10 (drop m s)) e)
 
 -- The label.
 
 pub label-found : (s : List ℕ) (k n from at : ℕ) → (n ≡ 0 → ⊥) → from ≡ lineStart s k → at ≡ from + past 34 (drop from s) → at * 4_294_967_296 + n ≡ labelCode (labelStart s k) n
-unfolding linked.labelStart
+unfolding places.labelStart
 label-found s k n from at some e f = rw (ne-eqb n 0 some) (ap (λ (m : ℕ). m * 4_294_967_296 + n) (f ∙ ap (λ (m : ℕ). m + past 34 (drop m s)) e))
 
 pub label-none : (start n : ℕ) → n ≡ 0 → 0 ≡ labelCode start n

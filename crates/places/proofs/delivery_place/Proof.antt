@@ -5,11 +5,11 @@ use Prim.Native.Nat.{ℕ, _+_}
 use native.Mathlib.Omega.{arith}
 use lib.ListN.{length}
 use Rattle.rules.specs.Reading.{reading}
-use Rattle.barleyhood.specs.Linked.{labelStart, labelCode, sourcesOf}
-use Rattle.barleyhood.specs.Places.{label-none, delivery-told, read-sources}
+use Rattle.places.specs.Places.{labelStart, labelCode, sourcesOf}
+use Rattle.places.specs.Walk.{label-none, delivery-told, read-sources}
 use borrow.Author.Needs.{needs}
-use Rattle.barleyhood.proofs.linked.barleyhood_delivery_label.Statement.{statement}
-use Rattle.barleyhood.proofs.linked.barleyhood_delivery_label.Tie as tie
+use Rattle.places.proofs.delivery_place.Statement.{statement}
+use Rattle.places.proofs.delivery_place.Tie as tie
 
 delivery-label-requires : tie.Need-delivery-label-requires
 delivery-label-requires c κs = search needs
@@ -43,6 +43,6 @@ returns-2 c =
     ∙ ap (λ (m : ℕ). labelCode (labelStart (a .s .now) (m + a .j + 1)) (length (c .before .before .before .before .before .delivery-label .result .now))) (read-sources _ (x .result) (x .ensures))
     ∙ ap (λ (p : List ℕ). labelCode (labelStart (a .s .now) (sourcesOf (reading (a .s .now)) + a .j + 1)) (length p)) (c .before .before .before .before .before .delivery-label .ensures)
 
-pub barleyhood-delivery-label-spec : {M : Type 1} → statement M
-barleyhood-delivery-label-spec =
+pub delivery-place-spec : {M : Type 1} → statement M
+delivery-place-spec =
     tie.close (tie.spec delivery-label-requires returns read-requires add-label-place add-label-place-2 label-place-requires returns-2)

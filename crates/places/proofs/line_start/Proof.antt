@@ -3,11 +3,11 @@ use mathlib.Core.Path.{_≡_}
 use Prim.Native.Nat.{_-_, _≤_}
 use native.Mathlib.Omega.{arith}
 use lib.ListN.{length}
-use Rattle.barleyhood.specs.Linked.{lineStart}
-use Rattle.barleyhood.specs.Places.{start-none, start-more}
+use Rattle.places.specs.Places.{lineStart}
+use Rattle.places.specs.Walk.{start-none, start-more}
 use borrow.Author.Needs.{needs}
-use Rattle.barleyhood.proofs.linked.line_start.Statement.{statement}
-use Rattle.barleyhood.proofs.linked.line_start.Tie as tie
+use Rattle.places.proofs.line_start.Statement.{statement}
+use Rattle.places.proofs.line_start.Tie as tie
 
 abbrev Inv-loop : tie.InvT-loop
 Inv-loop s k at₀ j₀ at j = (j ≤ k) × (at ≡ lineStart s j) × (at ≤ length s)

@@ -2,11 +2,11 @@
 use mathlib.Core.Path.{_≡_, refl}
 use Prim.Native.Nat.{_+_, _-_, _≤_}
 use lib.ListN.{length, drop}
-use Rattle.barleyhood.specs.Linked.{past}
-use Rattle.barleyhood.specs.Places.{walk-found, walk-on, walk-ended}
+use Rattle.places.specs.Places.{past}
+use Rattle.places.specs.Walk.{walk-found, walk-on, walk-ended}
 use borrow.Author.Needs.{needs}
-use Rattle.barleyhood.proofs.linked.past_byte.Statement.{statement}
-use Rattle.barleyhood.proofs.linked.past_byte.Tie as tie
+use Rattle.places.proofs.past_byte.Statement.{statement}
+use Rattle.places.proofs.past_byte.Tie as tie
 
 abbrev Inv-loop : tie.InvT-loop
 Inv-loop s from b i₀ i = (i ≤ length s) × (i + past b (drop i s) ≡ from + past b (drop from s))

@@ -1,10 +1,10 @@
 -- The line starts where its number tells, and the label after the first quote from there on.
 use native.Mathlib.Omega.{arith}
-use Rattle.barleyhood.specs.Linked.{labelStart}
-use Rattle.barleyhood.specs.Places.{label-none, label-found}
+use Rattle.places.specs.Places.{labelStart}
+use Rattle.places.specs.Walk.{label-none, label-found}
 use borrow.Author.Needs.{needs}
-use Rattle.barleyhood.proofs.linked.label_place.Statement.{statement}
-use Rattle.barleyhood.proofs.linked.label_place.Tie as tie
+use Rattle.places.proofs.label_place.Statement.{statement}
+use Rattle.places.proofs.label_place.Tie as tie
 
 returns : tie.Need-returns
 returns c = label-none (labelStart (c .before .before .args .s .now) (c .before .before .args .k)) _ (c .if1 .taken)
