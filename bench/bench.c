@@ -1,4 +1,5 @@
-/* Times the proved calls beside the C version of the same work, in one run, turn by turn, so that both meet the same machine.
+/* Times the proved calls beside two C versions of the same work, one plainly written (deck.c, plain.c) and one written for speed (quick.c,
+   hour.c, report.c), in one run, turn by turn, so that all meet the same machine.
    bench DECK..: a table for each deck. bench alone: how price and plain grow with MWh, sources and groups. */
 #define _POSIX_C_SOURCE 199309L
 #include <stdio.h>
@@ -10,7 +11,7 @@
 #include "hour.h"
 #include "report.h"
 
-enum { DECK = 8192, TURNS = 25 };
+enum { DECK = 8192, TURNS = 101 };
 
 static uint8_t deck[DECK];
 static size_t size;
@@ -23,28 +24,29 @@ static uint64_t proved_price(void) { return barleyhood_price(deck, size, cells, 
 static uint64_t proved_plain(void) { return barleyhood_plain(deck, size, cells, MOST_CELLS) + (uint64_t)cells[0]; }
 static uint64_t proved_report(void) { return barleyhood_report(deck, size, text, MOST_REPORT); }
 
-static uint64_t c_read(void) {
+typedef struct refusal reader(const uint8_t *s, size_t n, struct hour *h);
+typedef struct refusal rebuilder(const struct hour *h, int64_t *cells, size_t room, int by_price);
+
+static uint64_t c_hour(reader *read) {
     struct hour h = {0};
-    struct refusal r = read_deck(deck, size, &h);
+    struct refusal r = read(deck, size, &h);
     return r.number + h.sources;
 }
 
-static uint64_t c_read_plainly(void) {
+static uint64_t c_cells(reader *read, rebuilder *rebuild, int by_price) {
     struct hour h = {0};
-    struct refusal r = read_plainly(deck, size, &h);
-    return r.number + h.sources;
-}
-
-static uint64_t c_cells(int by_price) {
-    struct hour h = {0};
-    struct refusal r = read_deck(deck, size, &h);
-    if (!r.number) r = reconstruct(&h, cells, MOST_CELLS, by_price);
+    struct refusal r = read(deck, size, &h);
+    if (!r.number) r = rebuild(&h, cells, MOST_CELLS, by_price);
     return r.number + (uint64_t)cells[0];
 }
 
-static uint64_t c_price(void) { return c_cells(1); }
-static uint64_t c_plain(void) { return c_cells(0); }
-static uint64_t c_report(void) { return report(deck, size, text, MOST_REPORT); }
+static uint64_t plain_c_read(void) { return c_hour(read_plainly); }
+static uint64_t plain_c_price(void) { return c_cells(read_plainly, reconstruct_plainly, 1); }
+static uint64_t plain_c_plain(void) { return c_cells(read_plainly, reconstruct_plainly, 0); }
+static uint64_t quick_c_read(void) { return c_hour(read_deck); }
+static uint64_t quick_c_price(void) { return c_cells(read_deck, reconstruct, 1); }
+static uint64_t quick_c_plain(void) { return c_cells(read_deck, reconstruct, 0); }
+static uint64_t quick_c_report(void) { return report(deck, size, text, MOST_REPORT); }
 
 static double now(void) {
     struct timespec t;
@@ -54,30 +56,56 @@ static double now(void) {
 
 static volatile uint64_t sink;
 
-static double once(uint64_t (*work)(void), int repeats) {
+typedef uint64_t work(void);
+
+static double once(work *w, int repeats) {
     double began = now();
-    for (int i = 0; i < repeats; i++) sink += work();
+    for (int i = 0; i < repeats; i++) sink += w();
     return (now() - began) / repeats;
 }
 
-/* The best of many turns of each, taken in turn. */
-static void both(uint64_t (*a)(void), uint64_t (*b)(void), double *ta, double *tb) {
-    int repeats = (int)(2e6 / (once(a, 3) + 1)) + 1;
-    *ta = *tb = 1e18;
-    for (int i = 0; i < TURNS; i++) {
-        double x = once(a, repeats), y = once(b, repeats);
-        if (x < *ta) *ta = x;
-        if (y < *tb) *tb = y;
+/* The least time of each over many turns, taken in turn. */
+static void in_turn(int n, work *const *w, double *least) {
+    int repeats[16];
+    for (int k = 0; k < n; k++) {
+        repeats[k] = (int)(2e5 / (once(w[k], 3) + 1)) + 1;
+        least[k] = 1e18;
+    }
+    for (int i = 0; i < TURNS; i++)
+        for (int k = 0; k < n; k++) {
+            double x = once(w[k], repeats[k]);
+            if (x < least[k]) least[k] = x;
+        }
+}
+
+/* Every reconstruction must leave the same cells. */
+static void hold_cells(void) {
+    static work *const w[] = {proved_price, proved_plain, plain_c_price, plain_c_plain, quick_c_price, quick_c_plain};
+    static int64_t first[MOST_CELLS];
+    for (size_t k = 0; k < sizeof w / sizeof *w; k++) {
+        memset(cells, 0, sizeof cells);
+        w[k]();
+        if (k == 0) memcpy(first, cells, sizeof cells);
+        if (memcmp(cells, first, sizeof cells)) {
+            fprintf(stderr, "bench: the cells differ (%zu)\n", k);
+            exit(1);
+        }
     }
 }
 
-static void row(const char *name, uint64_t (*proved)(void), uint64_t (*c)(void)) {
-    double a, b;
-    both(proved, c, &a, &b);
-    printf("| %s | %.0f | %.0f | %.2f |\n", name, a, b, a / b);
+static void row(const char *name, double proved, double plain_c, double quick_c) {
+    printf("| %s | %.0f ", name, proved);
+    if (plain_c > 0)
+        printf("| %.0f | %.2f ", plain_c, proved / plain_c);
+    else
+        printf("| | ");
+    printf("| %.0f | %.2f |\n", quick_c, proved / quick_c);
 }
 
 static void table(const char *name) {
+    static work *const w[] = {proved_read,  plain_c_read,  quick_c_read,  proved_price,  plain_c_price, quick_c_price,
+                              proved_plain, plain_c_plain, quick_c_plain, proved_report, quick_c_report};
+    double t[sizeof w / sizeof *w], *read = t, *price = t + 3, *plain = t + 6, *printed = t + 9;
     FILE *f = fopen(name, "rb");
     if (!f) {
         perror(name);
@@ -85,12 +113,14 @@ static void table(const char *name) {
     }
     size = fread(deck, 1, DECK, f);
     fclose(f);
-    printf("\n%s, %zu bytes:\n\n| work | proved, ns | C, ns | ratio |\n|---|---|---|---|\n", name, size);
-    row("reading, beside a plain reader", proved_read, c_read_plainly);
-    row("reading, beside one written for speed", proved_read, c_read);
-    row("deck to cells, by price", proved_price, c_price);
-    row("deck to cells, one MWh at a time", proved_plain, c_plain);
-    row("deck to report", proved_report, c_report);
+    hold_cells();
+    in_turn(sizeof w / sizeof *w, w, t);
+    printf("\n%s, %zu bytes:\n\n| work | proved, ns | plain C, ns | ratio | C for speed, ns | ratio |\n|---|---|---|---|---|---|\n", name, size);
+    row("reading", read[0], read[1], read[2]);
+    row("deck to cells, by price", price[0], price[1], price[2]);
+    row("record to cells, by price: difference of the two rows above", price[0] - read[0], price[1] - read[1], price[2] - read[2]);
+    row("deck to cells, one MWh at a time", plain[0], plain[1], plain[2]);
+    row("deck to report", printed[0], 0, printed[1]);
 }
 
 /* An hour of so many like units, one delivery of so many MWh in each of so many groups. */
@@ -104,17 +134,19 @@ static void make(int sources, int groups, int mwh) {
 }
 
 static void growth(int sources, int groups, int mwh) {
-    double a, b, c, d;
+    static work *const w[] = {proved_price, plain_c_price, quick_c_price, proved_plain, plain_c_plain, quick_c_plain};
+    double t[6];
     make(sources, groups, mwh);
-    both(proved_price, c_price, &a, &b);
-    both(proved_plain, c_plain, &c, &d);
-    printf("| %d | %d | %d | %.0f | %.0f | %.0f | %.0f |\n", sources, groups, mwh, a, b, c, d);
+    hold_cells();
+    in_turn(6, w, t);
+    printf("| %d | %d | %d | %.0f | %.0f | %.0f | %.0f | %.0f | %.0f |\n", sources, groups, mwh, t[0], t[1], t[2], t[3], t[4], t[5]);
 }
 
 int main(int argc, char **argv) {
     for (int i = 1; i < argc; i++) table(argv[i]);
     if (argc > 1) return 0;
-    printf("\ndeck to cells, ns:\n\n| sources | groups | MWh each | price | price in C | plain | plain in C |\n|---|---|---|---|---|---|---|\n");
+    printf("\ndeck to cells, ns:\n\n| sources | groups | MWh each | price | in plain C | in C for speed | one MWh at a time | in plain C | in C for speed |\n"
+           "|---|---|---|---|---|---|---|---|---|\n");
     for (int mwh = 2; mwh <= 2000; mwh *= 10) growth(32, 1, mwh);
     for (int sources = 4; sources <= 32; sources *= 2) growth(sources, 1, 500);
     for (int groups = 1; groups <= 32; groups *= 2) growth(32, groups, 50);

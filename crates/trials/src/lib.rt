@@ -1,5 +1,8 @@
-// For tests from C: a deck's hour reconstructed into lent cells by either rule and written anew as a deck, also from a record that is spoiled in one field.
+// For tests from C: a deck's hour reconstructed into lent cells by either rule and written anew as a deck, also from a record that is spoiled in one field;
+// and one group for timing.
 // An answer is the number of cells or bytes, or a refusal's number times 65,536 and its place.
+mod settling;
+
 use hour::Verdict;
 use reconstruct::Reconstructed;
 use rules::Basis;
@@ -305,4 +308,23 @@ pub extern "C" fn trial_spoiled_written(
 ) -> u64 {
     let x = deck::read(deck);
     written(spoiled(x.hour, field, at % 32), out)
+}
+
+// One group: 0 where the deck or the group is refused.
+#[no_mangle]
+pub extern "C" fn trial_settle(
+    deck: &[u8],
+    total: u64,
+    took: u64,
+    by_price: bool,
+    times: usize,
+    levels: &mut [u64],
+) -> u64 {
+    let x = deck::read(deck);
+    let v = x.verdict;
+    let h = x.hour;
+    match v {
+        Verdict::Accepted => settling::settle_often(h, total, took, by_price, times, levels),
+        Verdict::Refused(_) => 0,
+    }
 }
