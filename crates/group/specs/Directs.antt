@@ -38,9 +38,6 @@ allocates s line g l h =
     }
 
 -- b where it is not set
-pub basic-set : (s : Running) (x : Basis) → s .based ≡ true → s .b ≡ basic s x
-basic-set s x e = rw e
-
 pub basic-new : (s : Running) (x : Basis) (r : ℕ) → s .based ≡ false → r ≡ min (s .v) (basis x (s .plant)) → r ≡ basic s x
 basic-new s x r e h = rw e h
 

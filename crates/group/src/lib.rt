@@ -11,13 +11,11 @@ use rules::Running;
 ghost use mathlib.Core.Path.{_≡_};
 ghost use Prim.Native.Nat.{_+_, _≤_};
 ghost use Rattle.rules.specs.Units.{normalLow, generation};
-ghost use Rattle.rules.specs.Group.{basis, basic, withBasic, directed, unload, credit, remainder};
-ghost use Rattle.rules.specs.Refusals.{accepted};
+ghost use Rattle.rules.specs.Group.{basis, basic, withBasic, directed, remainder};
 ghost use Rattle.merit.specs.LevelNeverBelowB.{Sound};
 ghost use Rattle.merit.specs.NumbersStaySmall.{Small};
 ghost use Rattle.shift.specs.Ready.{AllReady};
-ghost use Rattle.ladder.specs.Ways.{Long};
-ghost use Rattle.group.specs.Settling.{settled, apart, Suits};
+ghost use Rattle.group.specs.Settling.{settled, apart, tries, wayAt, Short, outcome};
 
 // What a remainder comes to.
 pub enum Verdict {
@@ -108,118 +106,30 @@ pub fn allocate(s: Running, line: Direct) -> Running
     s.with_direct(mwh, b, percent, s.paid + (after - before))
 }
 
-fn done(states: [Running; 32]) -> Settled
-    ensures { λ r. ⌜ r ≡ settled states (accepted states) ⌝ }
+// How many ways by prices a remainder has: three rungs down, or one up.
+fn tries_of(up: bool) -> usize
+    ensures { λ r. ⌜ r ≡ tries up ⌝ }
 {
-    Settled {
-        verdict: Verdict::Done,
-        states: states,
+    if up {
+        return 1;
     }
+    3
 }
 
-// What moves a remainder: a way by prices, or the last step with what it is to move, or nothing.
-pub enum Found {
-    By(Way),
-    Last(u64),
-    Refused(Refusal),
-}
-
-// The ladder: the first rung with room, or 12; and the lines of that rung.
-fn found_below(
-    number: InternalSequence,
-    states: [Running; 32],
-    n: usize,
-    total: u64,
-    one: &mut [u64; 32],
-    step: &mut [u64; 32],
-    span: &mut [u64; 32],
-    inv: &mut [u64; 32],
-    cap: &mut [u64; 32],
-) -> Found
-    requires { ⌜ AllReady states n ⌝ }
-    requires long { ⌜ Long (now one) (now step) (now span) (now inv) (now cap) ⌝ }
-    ensures { λ r. ⌜ Suits n states total (unload number n states total) (now (one .exit)) (now (step .exit)) (now (span .exit)) (now (inv .exit)) (now (cap .exit)) r ⌝ }
+// The i-th of them: normal lows first in every group, then the ladder's rungs in their order.
+fn way_at(up: bool, i: usize) -> Way
+    ensures { λ r. ⌜ r ≡ wayAt up i ⌝ }
 {
-    let normal = ladder::lined(
-        Way::Down(Rung::Normal),
-        states,
-        n,
-        one,
-        step,
-        span,
-        inv,
-        cap,
-    );
-    if total <= normal {
-        return Found::By(Way::Down(Rung::Normal));
+    if up {
+        return Way::Up;
     }
-    let oil = ladder::lined(Way::Down(Rung::Oil), states, n, one, step, span, inv, cap);
-    if total <= oil {
-        return Found::By(Way::Down(Rung::Oil));
+    if i == 0 {
+        return Way::Down(Rung::Normal);
     }
-    let emergency = ladder::lined(
-        Way::Down(Rung::Emergency),
-        states,
-        n,
-        one,
-        step,
-        span,
-        inv,
-        cap,
-    );
-    if total <= emergency {
-        return Found::By(Way::Down(Rung::Emergency));
+    if i == 1 {
+        return Way::Down(Rung::Oil);
     }
-    if total <= ladder::rooms(Way::Down(Rung::Last), states, n) {
-        return Found::Last(total - emergency);
-    }
-    Found::Refused(Refusal::NoRoom(number))
-}
-
-// A credit, or 13; and its lines.
-fn found_above(
-    number: InternalSequence,
-    states: [Running; 32],
-    n: usize,
-    total: u64,
-    one: &mut [u64; 32],
-    step: &mut [u64; 32],
-    span: &mut [u64; 32],
-    inv: &mut [u64; 32],
-    cap: &mut [u64; 32],
-) -> Found
-    requires { ⌜ AllReady states n ⌝ }
-    requires long { ⌜ Long (now one) (now step) (now span) (now inv) (now cap) ⌝ }
-    ensures { λ r. ⌜ Suits n states total (credit number n states total) (now (one .exit)) (now (step .exit)) (now (span .exit)) (now (inv .exit)) (now (cap .exit)) r ⌝ }
-{
-    let headroom = ladder::lined(Way::Up, states, n, one, step, span, inv, cap);
-    if total <= headroom {
-        return Found::By(Way::Up);
-    }
-    Found::Refused(Refusal::NoHeadroom(number))
-}
-
-// The one or the other, by the sign of the remainder.
-fn find_way(
-    number: InternalSequence,
-    n: usize,
-    total: u64,
-    took: u64,
-    states: [Running; 32],
-    one: &mut [u64; 32],
-    step: &mut [u64; 32],
-    span: &mut [u64; 32],
-    inv: &mut [u64; 32],
-    cap: &mut [u64; 32],
-) -> Found
-    requires { ⌜ AllReady states n ⌝ }
-    requires long { ⌜ Long (now one) (now step) (now span) (now inv) (now cap) ⌝ }
-    ensures { λ r. ⌜ Suits n states (apart total took) (remainder number n total took states) (now (one .exit)) (now (step .exit)) (now (span .exit)) (now (inv .exit)) (now (cap .exit)) r ⌝ }
-{
-    if took <= total {
-        return found_below(number, states, n, total - took, one, step, span, inv, cap);
-    }
-    found_above(number, states, n, took - total, one, step, span, inv, cap)
+    Way::Down(Rung::Emergency)
 }
 
 fn distance(a: u64, b: u64) -> u64
@@ -231,7 +141,38 @@ fn distance(a: u64, b: u64) -> u64
     b - a
 }
 
-// The group's remainder: its total less what its D lines took.
+// Where none of them has room: the last step, or 12; for a credit 13.
+fn settle_last(
+    number: InternalSequence,
+    up: bool,
+    n: usize,
+    states: [Running; 32],
+    total: u64,
+) -> Settled
+    requires { ⌜ AllReady states n ⌝ }
+    requires short { ⌜ Short up n states total (tries up) ⌝ }
+    ensures { λ r. ⌜ r ≡ settled states (outcome up number n states total) ⌝ }
+{
+    if up {
+        return Settled {
+            verdict: Verdict::Refused(Refusal::NoHeadroom(number)),
+            states: states,
+        };
+    }
+    if ladder::rooms(Way::Down(Rung::Last), states, n) < total {
+        return Settled {
+            verdict: Verdict::Refused(Refusal::NoRoom(number)),
+            states: states,
+        };
+    }
+    let lowered = ladder::rooms(Way::Down(Rung::Emergency), states, n);
+    Settled {
+        verdict: Verdict::Done,
+        states: ladder::below_emergency(states, n, total - lowered),
+    }
+}
+
+// The group's remainder, its total less what its D lines took: by the first way with room. The states are large, so their owner goes through them itself.
 pub fn settle(
     number: InternalSequence,
     n: usize,
@@ -243,47 +184,47 @@ pub fn settle(
     requires { ⌜ AllReady states n ⌝ }
     ensures { λ r. ⌜ r ≡ settled states (remainder number n total took states) ⌝ }
 {
+    let up = total < took;
+    let rest = distance(total, took);
+    let ways = tries_of(up);
     let mut one: [u64; 32] = [0; 32];
     let mut step: [u64; 32] = [0; 32];
     let mut span: [u64; 32] = [0; 32];
     let mut inv: [u64; 32] = [0; 32];
     let mut cap: [u64; 32] = [0; 32];
-    let rest = distance(total, took);
-    let found = find_way(
-        number,
-        n,
-        total,
-        took,
-        states,
-        &mut one,
-        &mut step,
-        &mut span,
-        &mut inv,
-        &mut cap,
-    );
-    match found {
-        Found::By(way) => {
-            return done(ladder::moved(
-                way,
-                states,
-                n,
-                rest,
-                by_price,
-                &one,
-                &step,
-                &span,
-                &inv,
-                &cap,
-            ));
+    let mut end = Settled {
+        verdict: Verdict::Done,
+        states: states,
+    };
+    let mut tried = 0;
+    while tried < ways {
+        let way = way_at(up, tried);
+        let mut sum: u64 = 0;
+        let mut i = 0;
+        while i < n {
+            let s = end.states[i];
+            let room = ladder::room_by(way, s);
+            let line = shift::line_of(up, s, room);
+            one[i] = line.one;
+            step[i] = line.step;
+            span[i] = line.span;
+            inv[i] = line.inv;
+            cap[i] = room;
+            sum += room;
+            i += 1;
         }
-        Found::Last(k) => {
-            return done(ladder::below_emergency(states, n, k));
+        if rest <= sum {
+            let taken = shift::take(by_price, up, &one, &step, &span, &inv, &cap, n, rest);
+            let mut k = 0;
+            while k < n {
+                let s = end.states[k];
+                let t = taken[k];
+                end.states[k] = shift::shift_one(up, s, t);
+                k += 1;
+            }
+            return end;
         }
-        Found::Refused(x) => {
-            return Settled {
-                verdict: Verdict::Refused(x),
-                states: states,
-            };
-        }
+        tried += 1;
     }
+    settle_last(number, up, n, end.states, rest)
 }

@@ -1,14 +1,12 @@
-// A remainder's ways over all sources: their room, the ladder's rungs and credit by either engine, and the ladder's last step.
-// The contracts cite rules' Group: `all`, `plain`, `unloading`, `crediting`, `lastStep` and `toEmergency`.
+// A remainder's ways: the room of a source and of all, by each; and the ladder's last step.
+// The contracts cite rules' Group: `all`, `plain`, `lastStep` and `toEmergency`, and specs/ for what an engine makes of a way's lines.
 use curve::Rung;
 use rules::Running;
-ghost use mathlib.Core.Bool.{true};
 ghost use mathlib.Core.Path.{_≡_};
 ghost use Prim.Native.Nat.{_+_, _≤_};
 ghost use Rattle.rules.specs.Group.{all, room, emergency, last, plain, lastStep, toEmergency};
 ghost use Rattle.shift.specs.Ready.{Ready, AllReady};
-ghost use Rattle.dispatch.specs.TakenIsPlain.{LinesOf};
-ghost use Rattle.ladder.specs.Ways.{wayOf, upOf, byPrice, Long};
+ghost use Rattle.ladder.specs.Ways.{wayOf};
 ghost use Rattle.ladder.specs.LastStep.{before, Chosen};
 
 // Down by a rung of the ladder, or up for a credit.
@@ -17,17 +15,8 @@ pub enum Way {
     Up,
 }
 
-fn is_up(way: Way) -> bool
-    ensures { λ r. ⌜ r ≡ upOf way ⌝ }
-{
-    match way {
-        Way::Down(_) => false,
-        Way::Up => true,
-    }
-}
-
 // By how many MWh a source may still be moved.
-fn room_by(way: Way, s: Running) -> u64
+pub fn room_by(way: Way, s: Running) -> u64
     requires { ⌜ Ready s ⌝ }
     ensures { λ r. ⌜ (r ≡ wayOf way .room s) × (r ≤ 2000) ⌝ }
 {
@@ -50,64 +39,6 @@ pub fn rooms(way: Way, states: [Running; 32], n: usize) -> u64
         i += 1;
     }
     sum
-}
-
-// The lines of the first n, and by how many MWh they may be moved together.
-pub fn lined(
-    way: Way,
-    states: [Running; 32],
-    n: usize,
-    one: &mut [u64; 32],
-    step: &mut [u64; 32],
-    span: &mut [u64; 32],
-    inv: &mut [u64; 32],
-    cap: &mut [u64; 32],
-) -> u64
-    requires { ⌜ AllReady states n ⌝ }
-    requires long { ⌜ Long (now one) (now step) (now span) (now inv) (now cap) ⌝ }
-    ensures { λ r. ⌜ r ≡ all (wayOf way .room) states n ⌝ }
-    ensures lines { λ _. ⌜ LinesOf (upOf way) (wayOf way .room) states (now (one .exit)) (now (step .exit)) (now (span .exit)) (now (inv .exit)) (now (cap .exit)) n ⌝ }
-{
-    let up = is_up(way);
-    let mut sum: u64 = 0;
-    let mut i = 0;
-    while i < n {
-        let s = states[i];
-        let room = room_by(way, s);
-        let line = shift::line_of(up, s, room);
-        one[i] = line.one;
-        step[i] = line.step;
-        span[i] = line.span;
-        inv[i] = line.inv;
-        cap[i] = room;
-        sum += room;
-        i += 1;
-    }
-    sum
-}
-
-// The states after the total, by the one or the other engine.
-pub fn moved(
-    way: Way,
-    states: [Running; 32],
-    n: usize,
-    total: u64,
-    by_price: bool,
-    one: &[u64; 32],
-    step: &[u64; 32],
-    span: &[u64; 32],
-    inv: &[u64; 32],
-    cap: &[u64; 32],
-) -> [Running; 32]
-    requires { ⌜ AllReady states n ⌝ }
-    requires prices { ⌜ byPrice way ≡ true ⌝ }
-    requires room { ⌜ total ≤ all (wayOf way .room) states n ⌝ }
-    requires lines { ⌜ LinesOf (upOf way) (wayOf way .room) states (now one) (now step) (now span) (now inv) (now cap) n ⌝ }
-    ensures { λ r. ⌜ r ≡ plain (wayOf way) n states total ⌝ }
-{
-    let up = is_up(way);
-    let taken = shift::take(by_price, up, one, step, span, inv, cap, n, total);
-    shift::shift_all(up, states, n, &taken)
 }
 
 // Each source at its emergency floor, where it is above it.

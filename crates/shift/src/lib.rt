@@ -1,4 +1,4 @@
-// Sources moved by an engine, down (up is false) or up: each source's line of merit, what the one or the other engine takes, and the states after it.
+// Sources moved by an engine, down (up is false) or up: each source's line of merit, what the one or the other engine takes, and a source after it.
 // The contracts cite dispatch's `Lined` and `Taken`, rules' `lowered` and `raised`, and specs/ for a source that may be moved.
 use dispatch::Line;
 use rules::Plant;
@@ -12,7 +12,7 @@ ghost use Rattle.marks.specs.Lines.{at, Table};
 ghost use Rattle.merit.specs.PricesRise.{price};
 ghost use Rattle.dispatch.specs.LinesOfPrices.{Lined};
 ghost use Rattle.dispatch.specs.Taken.{Taken};
-ghost use Rattle.shift.specs.Ready.{Ready, Within, shifted, AllWithin, Shifted};
+ghost use Rattle.shift.specs.Ready.{Ready, Within, shifted};
 
 // The line of a source that is to fall by at most cap.
 fn down_line(s: Running, cap: u64) -> Line
@@ -99,20 +99,4 @@ pub fn shift_one(up: bool, s: Running, k: u64) -> Running
         return curve::raised(s, x);
     }
     curve::lowered(s, x)
-}
-
-// Each of the first n sources moved by what was taken of it.
-pub fn shift_all(up: bool, states: [Running; 32], n: usize, taken: &[u64; 32]) -> [Running; 32]
-    requires { ⌜ AllWithin up states n (at (now taken)) ⌝ }
-    ensures { λ r. ⌜ Shifted up states n (at (now (taken .entry))) r ⌝ }
-{
-    let mut after = states;
-    let mut i = 0;
-    while i < n {
-        let s = after[i];
-        let k = taken[i];
-        after[i] = shift_one(up, s, k);
-        i += 1;
-    }
-    after
 }

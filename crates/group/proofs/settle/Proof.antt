@@ -1,77 +1,263 @@
--- `group::settle` meets its contract: the outcome of what was found.
-use mathlib.Core.Path.{ap, _∙_}
-use Prim.Native.Nat.{ℕ}
+-- `group::settle` meets its contract: the ways before have too little room; the lines of one stand, and its states are moved, up to the index.
+use mathlib.Core.Path.{_≡_, refl, sym, ap, _∙_}
+use Prim.Native.Nat.{_*_, _-_, _≤_, _<_}
 use native.Mathlib.Omega.{arith}
-use Rattle.group.specs.Settling.{apart, settled-done, settled-refused, suits-by, suits-last, suits-no}
-use Rattle.ladder.specs.Ways.{wayOf}
-use Rattle.rules.specs.Group.{plain, remainder}
+use lib.Dec.{ltb}
+use Rattle.dispatch.specs.Taken.{Taken}
+use Rattle.dispatch.specs.TakenIsPlain.{LinesOf, lines-more, lines-table}
+use Rattle.group.specs.declared.Verdict.the-variants.{Done}
+use Rattle.group.specs.Settling.{settled, wayAt, Trying, way-side, way-priced, short-none, short-more, short-all, settled-end, remainder-by, remainder-outcome}
+use Rattle.ladder.specs.Ways.{wayOf, upOf, way-within, long-lines, lines-long, lines-done, lines-room, taken-within, engine-plain}
+use Rattle.laws.specs.Sums.{sumTo-none, sumTo-more, sumTo-end}
+use Rattle.marks.specs.Lines.{at}
+use Rattle.merit.specs.LevelNeverBelowB.{stateAt}
+use Rattle.rules.specs.Group.{all}
+use Rattle.shift.specs.Ready.{AllWithin, Shifted, shifted-none, shifted-more, shifted-all}
 use borrow.Author.Needs.{needs}
 use Rattle.group.proofs.settle.Statement.{statement}
 use Rattle.group.proofs.settle.Tie as tie
 
-distance-requires : tie.Need-distance-requires
+abbrev Inv-loop2 : tie.InvT-loop2
+Inv-loop2 number n total took by-price up rest ways one₀ step₀ span₀ inv₀ cap₀ end tried way sum₀ i₀ one step span inv cap sum i =
+    (i ≤ n) × (sum ≤ i * 2000) × (sum ≡ all (wayOf way .room) (end .states) i) × LinesOf up (wayOf way .room) (end .states) one step span inv cap i
+
+abbrev μ-loop2 : tie.MeasureT-loop2
+μ-loop2 number n total took by-price up rest ways one₀ step₀ span₀ inv₀ cap₀ end tried way sum₀ i₀ one step span inv cap sum i = n - i
+
+abbrev Inv-loop3 : tie.InvT-loop3
+Inv-loop3 n total took by-price up rest ways end₀ tried sum i taken k₀ end k = (k ≤ n) × Shifted up (end₀ .states) k (at taken) (end .states) × (end .verdict ≡ Done)
+
+abbrev μ-loop3 : tie.MeasureT-loop3
+μ-loop3 n total took by-price up rest ways end₀ tried sum i taken k₀ end k = n - k
+
+abbrev Inv-loop : tie.InvT-loop
+Inv-loop number n total took by-price up rest ways one₀ step₀ span₀ inv₀ cap₀ end₀ tried₀ one step span inv cap end tried =
+    (tried ≤ ways) × (end .verdict ≡ Done) × Trying up n (end₀ .states) rest one step span inv cap (end .states) tried
+
+abbrev μ-loop : tie.MeasureT-loop
+μ-loop number n total took by-price up rest ways one₀ step₀ span₀ inv₀ cap₀ end₀ tried₀ one step span inv cap end tried = ways - tried
+
+distance-requires : tie.Need-distance-requires Inv-loop2 μ-loop2 Inv-loop3 μ-loop3 Inv-loop μ-loop
 distance-requires c κs = search needs
 
-find-way-requires : tie.Need-find-way-requires
-find-way-requires c κs = search needs
+tries-of-requires : tie.Need-tries-of-requires Inv-loop2 μ-loop2 Inv-loop3 μ-loop3 Inv-loop μ-loop
+tries-of-requires c κs = search needs
 
-enum-known-found : tie.Need-enum-known-found
-enum-known-found c = search needs
+loop-holds : tie.Need-loop-holds Inv-loop2 μ-loop2 Inv-loop3 μ-loop3 Inv-loop μ-loop
+loop-holds c = (omega arith, refl, record { lists = record { long-one = refl; long-step = refl; long-span = refl; long-inv = refl; long-cap = refl }; same = refl; long = search needs; ready = c .before .before .pre; short = short-none })
 
-moved-requires : tie.Need-moved-requires
-moved-requires c κs =
-    let a = c .before .before .before .before .before .before .before .before .before .before .before .before .before .before .before .args in
-    let s = suits-by (a .n) (a .states) _ _ _ _ _ (apart (a .total) (a .took)) (remainder (a .number) (a .n) (a .total) (a .took) (a .states)) (c .before .before .before .before .before .before .before .before .find-way .result) (c .before .before .before .before .before .before .before .before .find-way .ensures) (c .before .before .before .before .before .before .found .given .0 .0) (c .before .before .before .before .before .before .found .given .1) in
-    (c .before .before .before .before .before .before .before .before .before .before .before .before .before .before .before .pre, (s .0, (omega (arith, s .1, c .before .before .before .before .before .before .before .before .before .before .before .before .before .before .distance .ensures), s .2)))
+way-at-requires : tie.Need-way-at-requires Inv-loop2 μ-loop2 Inv-loop3 μ-loop3 Inv-loop μ-loop
+way-at-requires c κs = search needs
 
-done-requires : tie.Need-done-requires
-done-requires c κs = search needs
+loop2-holds : tie.Need-loop2-holds Inv-loop2 μ-loop2 Inv-loop3 μ-loop3 Inv-loop μ-loop
+loop2-holds c = (omega arith, omega arith, sumTo-none _, long-lines (c .before .before .loop .inv .2 .lists))
 
-returns : tie.Need-returns
+mul-s : tie.Need-mul-s Inv-loop2 μ-loop2 Inv-loop3 μ-loop3 Inv-loop μ-loop
+mul-s c = search needs
+
+element-copy-out-s : tie.Need-element-copy-out-s Inv-loop2 μ-loop2 Inv-loop3 μ-loop3 Inv-loop μ-loop
+element-copy-out-s c = search needs
+
+room-by-requires : tie.Need-room-by-requires Inv-loop2 μ-loop2 Inv-loop3 μ-loop3 Inv-loop μ-loop
+room-by-requires c κs = c .before .before .before .before .before .loop .inv .2 .ready .ready _
+
+way-up : (c : tie.After-way-at Inv-loop2 μ-loop2 Inv-loop3 μ-loop3 Inv-loop μ-loop) → ltb (c .before .before .before .before .before .args .total) (c .before .before .before .before .before .args .took) ≡ upOf (c .way-at .result)
+way-up c = way-side _ _ _ (c .way-at .ensures)
+
+line-of-requires : tie.Need-line-of-requires Inv-loop2 μ-loop2 Inv-loop3 μ-loop3 Inv-loop μ-loop
+line-of-requires c κs =
+    let r = c .before .before .before .before .before .before .loop .inv .2 .ready .ready (c .before .before .before .loop2 .i) in
+    (r, rw (way-up (c .before .before .before .before)) (way-within (c .before .before .before .before .way-at .result) _ (c .room-by .result) r (omega (arith, c .room-by .ensures .0))))
+
+mul-one : tie.Need-mul-one Inv-loop2 μ-loop2 Inv-loop3 μ-loop3 Inv-loop μ-loop
+mul-one c = search needs
+
+array-write-one : tie.Need-array-write-one Inv-loop2 μ-loop2 Inv-loop3 μ-loop3 Inv-loop μ-loop
+array-write-one c = search needs
+
+mul-step : tie.Need-mul-step Inv-loop2 μ-loop2 Inv-loop3 μ-loop3 Inv-loop μ-loop
+mul-step c = search needs
+
+array-write-step : tie.Need-array-write-step Inv-loop2 μ-loop2 Inv-loop3 μ-loop3 Inv-loop μ-loop
+array-write-step c = search needs
+
+mul-span : tie.Need-mul-span Inv-loop2 μ-loop2 Inv-loop3 μ-loop3 Inv-loop μ-loop
+mul-span c = search needs
+
+array-write-span : tie.Need-array-write-span Inv-loop2 μ-loop2 Inv-loop3 μ-loop3 Inv-loop μ-loop
+array-write-span c = search needs
+
+mul-inv : tie.Need-mul-inv Inv-loop2 μ-loop2 Inv-loop3 μ-loop3 Inv-loop μ-loop
+mul-inv c = search needs
+
+array-write-inv : tie.Need-array-write-inv Inv-loop2 μ-loop2 Inv-loop3 μ-loop3 Inv-loop μ-loop
+array-write-inv c = search needs
+
+mul-cap : tie.Need-mul-cap Inv-loop2 μ-loop2 Inv-loop3 μ-loop3 Inv-loop μ-loop
+mul-cap c = search needs
+
+array-write-cap : tie.Need-array-write-cap Inv-loop2 μ-loop2 Inv-loop3 μ-loop3 Inv-loop μ-loop
+array-write-cap c = search needs
+
+add-sum : tie.Need-add-sum Inv-loop2 μ-loop2 Inv-loop3 μ-loop3 Inv-loop μ-loop
+add-sum c = omega (arith, c .before .room-by .ensures .1, c .before .before .before .before .loop2 .inv .1, c .before .before .before .before .before .before .before .before .before .before .pre .n-small)
+
+add-i : tie.Need-add-i Inv-loop2 μ-loop2 Inv-loop3 μ-loop3 Inv-loop μ-loop
+add-i c = search needs
+
+loop2-less : tie.Need-loop2-less Inv-loop2 μ-loop2 Inv-loop3 μ-loop3 Inv-loop μ-loop
+loop2-less c = search needs
+
+loop2-again : tie.Need-loop2-again Inv-loop2 μ-loop2 Inv-loop3 μ-loop3 Inv-loop μ-loop
+loop2-again c = (
+  omega arith,
+  omega (arith, c .before .room-by .ensures .1, c .before .before .before .before .loop2 .inv .1),
+  sumTo-more _ _ _ _ (c .before .before .before .before .loop2 .inv .2) (c .before .room-by .ensures .0),
+  lines-more (c .before .before .before .before .loop2 .inv .3) (omega (arith, c .before .before .before .before .before .before .before .before .before .before .pre .n-small)) (c .line-of .ensures) (c .before .room-by .ensures .0),
+)
+
+lined : (c : tie.After-loop2 Inv-loop2 μ-loop2 Inv-loop3 μ-loop3 Inv-loop μ-loop) → let l = c .before .loop2 in let way = c .before .before .way-at .result in LinesOf (upOf way) (wayOf way .room) (c .before .before .before .before .loop .end .states) (l .one) (l .step) (l .span) (l .inv′) (l .cap) (c .before .before .before .before .before .before .before .args .n)
+lined c = lines-done (c .before .before .way-at .result) (way-up (c .before .before)) (c .before .loop2 .inv .0) (c .loop2-test .left) (c .before .loop2 .inv .3)
+
+roomy : (c : tie.After-loop2 Inv-loop2 μ-loop2 Inv-loop3 μ-loop3 Inv-loop μ-loop) → c .before .loop2 .sum ≡ all (wayOf (c .before .before .way-at .result) .room) (c .before .before .before .before .loop .end .states) (c .before .before .before .before .before .before .before .args .n)
+roomy c = sumTo-end _ _ _ _ (c .before .loop2 .inv .0) (c .loop2-test .left) (c .before .loop2 .inv .2)
+
+take-requires : tie.Need-take-requires Inv-loop2 μ-loop2 Inv-loop3 μ-loop3 Inv-loop μ-loop
+take-requires c κs = (lines-table (lined (c .before .before .before .before .before .before)) (c .before .before .before .before .before .before .before .before .before .before .before .before .before .pre .n-small), lines-room (c .before .before .before .before .before .before .before .before .way-at .result) (lined (c .before .before .before .before .before .before)) (omega (arith, c .before .before .before .before .before .if1 .taken, roomy (c .before .before .before .before .before .before))))
+
+loop3-holds : tie.Need-loop3-holds Inv-loop2 μ-loop2 Inv-loop3 μ-loop3 Inv-loop μ-loop
+loop3-holds c = (omega arith, shifted-none _ _ _, c .before .before .before .before .before .before .before .before .before .before .before .loop .inv .1)
+
+mul-s-2 : tie.Need-mul-s-2 Inv-loop2 μ-loop2 Inv-loop3 μ-loop3 Inv-loop μ-loop
+mul-s-2 c = search needs
+
+element-copy-out-s-2 :
+    tie.Need-element-copy-out-s-2 Inv-loop2 μ-loop2 Inv-loop3 μ-loop3 Inv-loop μ-loop
+element-copy-out-s-2 c = search needs
+
+mul-t : tie.Need-mul-t Inv-loop2 μ-loop2 Inv-loop3 μ-loop3 Inv-loop μ-loop
+mul-t c = search needs
+
+array-read-t : tie.Need-array-read-t Inv-loop2 μ-loop2 Inv-loop3 μ-loop3 Inv-loop μ-loop
+array-read-t c = search needs
+
+taken : (c : tie.After-take Inv-loop2 μ-loop2 Inv-loop3 μ-loop3 Inv-loop μ-loop) → let l = c .before .before .before .before .before .before .before .before .loop2 in Taken (upOf (c .before .before .before .before .before .before .before .before .before .way-at .result)) (l .one) (l .step) (l .cap) (c .before .before .before .before .before .before .before .before .before .before .before .before .before .before .args .n) (c .before .before .before .before .before .before .before .before .before .before .before .before .before .distance .result) (c .take .result)
+taken c = rw (way-up (c .before .before .before .before .before .before .before .before .before)) at (c .take .ensures)
+
+within : (c : tie.After-take Inv-loop2 μ-loop2 Inv-loop3 μ-loop3 Inv-loop μ-loop) → AllWithin (ltb (c .before .before .before .before .before .before .before .before .before .before .before .before .before .before .args .total) (c .before .before .before .before .before .before .before .before .before .before .before .before .before .before .args .took)) (c .before .before .before .before .before .before .before .before .before .before .before .loop .end .states) (c .before .before .before .before .before .before .before .before .before .before .before .before .before .before .args .n) (at (c .take .result))
+within c = rw (way-up (c .before .before .before .before .before .before .before .before .before)) (taken-within (c .before .before .before .before .before .before .before .before .before .way-at .result) (lined (c .before .before .before .before .before .before .before)) (c .before .before .before .before .before .before .before .before .before .before .before .loop .inv .2 .ready) (taken c))
+
+shift-one-requires :
+    tie.Need-shift-one-requires Inv-loop2 μ-loop2 Inv-loop3 μ-loop3 Inv-loop μ-loop
+shift-one-requires c κs =
+    let l = c .before .before .loop3 in
+    let w = within (c .before .before .before) in
+    let e : stateAt (l .end .states) (l .k) ≡ stateAt (c .before .before .before .before .before .before .before .before .before .before .before .before .before .before .loop .end .states) (l .k) = l .inv .1 .beyond _ (omega arith) in
+    rw e (w .all .ready _, w .within _ (omega arith))
+
+mul-t51 : tie.Need-mul-t51 Inv-loop2 μ-loop2 Inv-loop3 μ-loop3 Inv-loop μ-loop
+mul-t51 c = search needs
+
+element-set-from-end :
+    tie.Need-element-set-from-end Inv-loop2 μ-loop2 Inv-loop3 μ-loop3 Inv-loop μ-loop
+element-set-from-end c = search needs
+
+add-k : tie.Need-add-k Inv-loop2 μ-loop2 Inv-loop3 μ-loop3 Inv-loop μ-loop
+add-k c = search needs
+
+loop3-less : tie.Need-loop3-less Inv-loop2 μ-loop2 Inv-loop3 μ-loop3 Inv-loop μ-loop
+loop3-less c = search needs
+
+loop3-again : tie.Need-loop3-again Inv-loop2 μ-loop2 Inv-loop3 μ-loop3 Inv-loop μ-loop
+loop3-again c = (omega arith, shifted-more _ _ _ _ _ _ (omega arith) (c .before .before .before .before .before .before .before .before .before .before .before .before .before .before .before .loop .inv .2 .long) (c .before .before .before .loop3 .inv .1) (c .shift-one .ensures), c .before .before .before .loop3 .inv .2)
+
+returns : tie.Need-returns Inv-loop2 μ-loop2 Inv-loop3 μ-loop3 Inv-loop μ-loop
 returns c =
-    let a = c .before .before .before .before .before .before .before .before .before .before .before .before .before .before .before .before .before .args in
-    let s = suits-by (a .n) (a .states) _ _ _ _ _ (apart (a .total) (a .took)) (remainder (a .number) (a .n) (a .total) (a .took) (a .states)) (c .before .before .before .before .before .before .before .before .before .before .find-way .result) (c .before .before .before .before .before .before .before .before .before .before .find-way .ensures) (c .before .before .before .before .before .before .before .before .found .given .0 .0) (c .before .before .before .before .before .before .before .before .found .given .1) in
-    settled-done (a .states) (c .done .ensures) (c .before .moved .ensures ∙ ap (λ (x : ℕ). plain (wayOf (c .before .before .before .before .before .before .before .before .found .given .0 .0)) (a .n) (a .states) x) (c .before .before .before .before .before .before .before .before .before .before .before .before .before .before .before .before .distance .ensures)) (s .3)
+    let a = c .before .before .before .before .before .before .before .before .before .before .before .before .before .before .before .before .args in
+    let l = c .before .before .before .before .before .before .before .before .before .before .before .before .before .loop in
+    let way = c .before .before .before .before .before .before .before .before .before .before .before .way-at .result in
+    let d = c .before .before .before .before .before .before .before .before .before .before .before .before .before .before .before .distance .ensures in
+    let moved = shifted-all _ _ _ _ _ _ (c .before .loop3 .inv .0) (c .loop3-test .left) (c .before .loop3 .inv .1) in
+    let e = engine-plain (l .inv .2 .ready) way (way-priced (ltb (a .total) (a .took)) (l .tried) way (c .before .before .before .before .before .before .before .before .before .before .before .way-at .ensures)) (lined (c .before .before .before .before .before .before .before .before .before)) (taken (c .before .before)) (rw (way-up (c .before .before .before .before .before .before .before .before .before .before .before)) at moved) in
+    rw (← l .inv .2 .same) (settled-end (l .end .states) (c .before .loop3 .end) (c .before .loop3 .inv .2) e
+    (remainder-by (a .number) (a .n) (a .total) (a .took) (l .end .states) _ _ way d (c .before .before .before .before .before .before .before .before .before .before .before .way-at .ensures) (omega (arith, c .before .before .before .before .before .before .before .before .before .before .before .before .loop-test .taken, c .before .before .before .before .before .before .before .before .before .before .before .before .before .before .tries-of .ensures)) (l .inv .2 .short) (omega (arith, c .before .before .before .before .before .before .before .before .if1 .taken, roomy (c .before .before .before .before .before .before .before .before .before)))))
 
-enum-known-found-2 : tie.Need-enum-known-found-2
-enum-known-found-2 c = search needs
+add-tried : tie.Need-add-tried Inv-loop2 μ-loop2 Inv-loop3 μ-loop3 Inv-loop μ-loop
+add-tried c = search needs
 
-below-emergency-requires : tie.Need-below-emergency-requires
-below-emergency-requires c κs =
-    let a = c .before .before .before .before .before .before .before .before .before .before .args in
-    let s = suits-last (a .n) (a .states) _ _ _ _ _ (apart (a .total) (a .took)) (remainder (a .number) (a .n) (a .total) (a .took) (a .states)) (c .before .before .before .find-way .result) (c .before .before .before .find-way .ensures) (c .before .found2 .given .0 .0) (c .before .found2 .given .1) in
-    (c .before .before .before .before .before .before .before .before .before .before .pre, s .0)
+loop-less : tie.Need-loop-less Inv-loop2 μ-loop2 Inv-loop3 μ-loop3 Inv-loop μ-loop
+loop-less c = search needs
 
-done-requires-2 : tie.Need-done-requires-2
-done-requires-2 c κs = search needs
+short : (c : tie.Else1 Inv-loop2 μ-loop2 Inv-loop3 μ-loop3 Inv-loop μ-loop) → all (wayOf (wayAt (ltb (c .before .before .before .before .before .before .before .before .args .total) (c .before .before .before .before .before .before .before .before .args .took)) (c .before .before .before .before .before .loop .tried)) .room) (c .before .before .before .before .before .loop .end .states) (c .before .before .before .before .before .before .before .before .args .n) < c .before .before .before .before .before .before .before .distance .result
+short c =
+    let h : all (wayOf (c .before .before .before .way-at .result) .room) (c .before .before .before .before .before .loop .end .states) (c .before .before .before .before .before .before .before .before .args .n) < c .before .before .before .before .before .before .before .distance .result = omega (arith, c .if1 .left, roomy (c .before)) in
+    rw (c .before .before .before .way-at .ensures) at h
 
-returns-2 : tie.Need-returns-2
+loop-again : tie.Need-loop-again Inv-loop2 μ-loop2 Inv-loop3 μ-loop3 Inv-loop μ-loop
+loop-again c =
+    let t = c .before .before .before .before .before .loop .inv .2 in
+    (omega (arith, c .before .before .before .before .loop-test .taken), c .before .before .before .before .before .loop .inv .1, record { lists = lines-long (c .before .before .loop2 .inv .3); same = t .same; long = t .long; ready = t .ready; short = short-more (t .short) (short c) })
+
+settle-last-requires :
+    tie.Need-settle-last-requires Inv-loop2 μ-loop2 Inv-loop3 μ-loop3 Inv-loop μ-loop
+settle-last-requires c κs =
+    let l = c .before .before .loop in
+    (l .inv .2 .ready, short-all (omega (arith, l .inv .0, c .before .before .before .tries-of .ensures)) (omega (arith, c .before .loop-test .left, c .before .before .before .tries-of .ensures)) (l .inv .2 .short))
+
+returns-2 : tie.Need-returns-2 Inv-loop2 μ-loop2 Inv-loop3 μ-loop3 Inv-loop μ-loop
 returns-2 c =
-    let a = c .before .before .before .before .before .before .before .before .before .before .before .before .args in
-    let s = suits-last (a .n) (a .states) _ _ _ _ _ (apart (a .total) (a .took)) (remainder (a .number) (a .n) (a .total) (a .took) (a .states)) (c .before .before .before .before .before .find-way .result) (c .before .before .before .before .before .find-way .ensures) (c .before .before .before .found2 .given .0 .0) (c .before .before .before .found2 .given .1) in
-    settled-done (a .states) (c .done2 .ensures) (c .before .below-emergency .ensures) (s .1)
-
-enum-known-found-3 : tie.Need-enum-known-found-3
-enum-known-found-3 c = search needs
-
-returns-3 : tie.Need-returns-3
-returns-3 c =
-    let a = c .before .before .before .before .before .before .before .before .before .before .args in
-    settled-refused (a .states) (suits-no (a .n) (a .states) _ _ _ _ _ (apart (a .total) (a .took)) (remainder (a .number) (a .n) (a .total) (a .took) (a .states)) (c .before .before .before .find-way .result) (c .before .before .before .find-way .ensures) (c .before .found3 .given .0 .0) (c .before .found3 .given .1))
+    let a = c .before .before .before .before .before .before .args in
+    let l = c .before .before .before .loop in
+    rw (← l .inv .2 .same) (c .settle-last .ensures ∙ ap (settled (l .end .states)) (sym (remainder-outcome (a .number) (a .n) (a .total) (a .took) (l .end .states) _ (c .before .before .before .before .before .distance .ensures))))
 
 pub settle-spec : {M : Type 1} → statement M
 settle-spec =
     tie.close
     (tie.spec
+    Inv-loop2
+    μ-loop2
+    Inv-loop3
+    μ-loop3
+    Inv-loop
+    μ-loop
     distance-requires
-    find-way-requires
-    enum-known-found
-    moved-requires
-    done-requires
+    tries-of-requires
+    loop-holds
+    way-at-requires
+    loop2-holds
+    mul-s
+    element-copy-out-s
+    room-by-requires
+    line-of-requires
+    mul-one
+    array-write-one
+    mul-step
+    array-write-step
+    mul-span
+    array-write-span
+    mul-inv
+    array-write-inv
+    mul-cap
+    array-write-cap
+    add-sum
+    add-i
+    loop2-less
+    loop2-again
+    take-requires
+    loop3-holds
+    mul-s-2
+    element-copy-out-s-2
+    mul-t
+    array-read-t
+    shift-one-requires
+    mul-t51
+    element-set-from-end
+    add-k
+    loop3-less
+    loop3-again
     returns
-    enum-known-found-2
-    below-emergency-requires
-    done-requires-2
-    returns-2
-    enum-known-found-3
-    returns-3)
+    add-tried
+    loop-less
+    loop-again
+    settle-last-requires
+    returns-2)
