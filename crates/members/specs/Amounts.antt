@@ -88,10 +88,10 @@ fours-more f d n xs ys h g e i item l =
     (setFour-inside xs (n * 4) (f n) d h item) i (omega arith))
 
 module _ (ss ts us : List Running) where
-  pub amounts-none : (sizes : List ℕ) (minus : List Bool) → length sizes ≡ 128 → length minus ≡ 128 → Amounts ss ts us 0 sizes minus
+  amounts-none : (sizes : List ℕ) (minus : List Bool) → length sizes ≡ 128 → length minus ≡ 128 → Amounts ss ts us 0 sizes minus
   amounts-none sizes minus h l = record { sizes-long = h; minus-long = l; size = λ i item z. absurd (omega arith); sign = λ i item z. absurd (omega arith) }
 
-  pub amounts-more : (n : ℕ) (sizes sizes′ : List ℕ) (minus minus′ : List Bool) → n < 32 → Amounts ss ts us n sizes minus
+  amounts-more : (n : ℕ) (sizes sizes′ : List ℕ) (minus minus′ : List Bool) → n < 32 → Amounts ss ts us n sizes minus
       → sizes′ ≡ setFour sizes (n * 4) (λ item. taken ss ts us n item .size)
       → minus′ ≡ setFour minus (n * 4) (λ item. taken ss ts us n item .minus) → Amounts ss ts us (n + 1) sizes′ minus′
   amounts-more n sizes sizes′ minus minus′ h a e z = record {
@@ -101,7 +101,7 @@ module _ (ss ts us : List Running) where
     sign = fours-more (λ i item. taken ss ts us i item .minus) false n minus minus′ (omega (arith, a .minus-long)) (a .sign) z;
   }
 
-  pub amounts-all : (n i : ℕ) (sizes : List ℕ) (minus : List Bool) → i ≤ n → n ≤ i → Amounts ss ts us i sizes minus → Amounts ss ts us n sizes minus
+  amounts-all : (n i : ℕ) (sizes : List ℕ) (minus : List Bool) → i ≤ n → n ≤ i → Amounts ss ts us i sizes minus → Amounts ss ts us n sizes minus
   amounts-all n i sizes minus l m a = let e : i ≡ n = omega arith in rw e at a
 
 -- The sources of which something is taken: the others' entries stay 0.
@@ -116,7 +116,7 @@ pub record Untaken (s t u : Running) : Type 0 where
   pub paid : t .paid ≡ s .paid
   pub left : t .v ≡ u .v
 
-pub untaken : (s t u : Running) → someTaken s t u ≡ false → Untaken s t u
+untaken : (s t u : Running) → someTaken s t u ≡ false → Untaken s t u
 unfolding someTaken
 untaken s t u e =
     let a = both-true (eqb (t .d) (s .d)) (eqb (t .paid) (s .paid) && eqb (t .v) (u .v)) (not-false (eqb (t .d) (s .d) && (eqb (t .paid) (s .paid) && eqb (t .v) (u .v))) e) in

@@ -1,9 +1,10 @@
--- A row: one member's cells, source by source, and what the members have with it.
+-- A row: one member's cells, place by place, and what the members have with it.
 use mathlib.Core.Bool.{Bool, true, false}
 use mathlib.Core.List.{List}
-use mathlib.Core.Path.{_≡_, refl, _∙_}
-use Prim.Native.Nat.{ℕ, _+_, _-_, _*_, _/_, _≤_, _<_}
-use native.Mathlib.Nat.{zero-mul, mul-zero, zero-div}
+use mathlib.Core.Path.{_≡_, refl, ap, _∙_}
+use Prim.Native.Nat.{ℕ, zero, suc, _+_, _-_, _*_, _/_, _≤_, _<_}
+use native.Mathlib.Decide.{decLt}
+use native.Mathlib.Nat.{zero-mul, mul-zero, zero-div, mul-div-cancel}
 use native.Mathlib.Numerals.{add-one}
 use native.Mathlib.Omega.{arith}
 use lib.Dec.{eqb}
@@ -12,8 +13,10 @@ use lib.ListN.{length, getD, set, length-set}
 use lib.Seq.{getD-set-same, getD-set-other}
 use Rattle.balance.specs.AnswerCells.{cellAt}
 use Rattle.laws.specs.Sums.{below-suc, part-most}
+use Rattle.members.specs.Live.{reached, Listed, reached-more, reached-most}
 use Rattle.rules.specs.Group.{signed, upTo}
 use Rattle.rules.specs.Words.{if_then_else_}
+use Rattle.shares.specs.Sharing.{upTo-part, upTo-whole}
 
 abbrev pub SizesSmall : ℕ → List ℕ → Type 0
 SizesSmall width sizes = (q : ℕ) → q < width → getD sizes q 0 ≤ 100_000_000_000_000
@@ -24,10 +27,12 @@ pub record RowFits (at width total count mwh : ℕ) (sizes had : List ℕ) (xs :
   pub low : at ≤ 4096
   pub room : at + width ≤ length xs
   pub had-long : length had ≡ 128
+  pub some : 0 < count
   pub mwh-small : mwh ≤ 64_000
   pub part : mwh ≤ total
   pub sizes-small : SizesSmall width sizes
   pub grows : (q : ℕ) → q < width → getD had q 0 ≤ upTo total (getD sizes q 0) count mwh
+  pub blank : (q : ℕ) → q < width → cellAt xs (at + q) ≡ pos 0
 
 -- its share of each size stands from `at` on, and the rest stays
 pub record Row (at total count mwh : ℕ) (sizes : List ℕ) (minus : List Bool) (had : List ℕ) (xs : List ℤ) (width : ℕ) (has : List ℕ) (ys : List ℤ) : Type 0 where
@@ -51,6 +56,11 @@ upTo-nothing x size c m e = rw e (go (eqb x 0) (eqb c 0))
     go true false = refl
     go false z = rw (zero-mul m, zero-div x)
 
+-- with all of the MWh they have all
+pub upTo-all : (x size c m : ℕ) → m ≡ x → 0 < c → size ≡ upTo x size c m
+upTo-all zero size c m e h = upTo-whole 0 size c m refl (λ z. omega arith)
+upTo-all (suc x) size c m e h = omega (arith, mul-div-cancel size {n = suc x} (omega arith), ap (λ (y : ℕ). size * y / suc x) e, upTo-part (suc x) size c m (omega arith))
+
 -- before the first they have 0
 pub upTo-start : (x size : ℕ) → 0 ≡ upTo x size 0 0
 unfolding upTo
@@ -70,11 +80,16 @@ upTo-most x size c m h = go (eqb x 0) (eqb c 0)
     go true false = omega arith
     go false z = part-most size m x h
 
--- The row's loop.
+signed-nothing : (y : Bool) (n : ℕ) → n ≡ 0 → pos 0 ≡ signed y n
+signed-nothing true n e = rw e
+signed-nothing false n e = rw e
+
+-- The row's loop: up to where the listed places reach.
 
 module _ (at total count mwh : ℕ) (sizes : List ℕ) (minus : List Bool) (had : List ℕ) (xs : List ℤ) where
-  pub row-none : Row at total count mwh sizes minus had xs 0 had xs
-  row-none = record {
+  pub row-none : (live : List ℕ) → Row at total count mwh sizes minus had xs (reached live 0) had xs
+  unfolding reached
+  row-none live = record {
     has-long = refl;
     has-more = λ q l. absurd (omega arith);
     has-still = λ q l. refl;
@@ -84,7 +99,7 @@ module _ (at total count mwh : ℕ) (sizes : List ℕ) (minus : List Bool) (had 
     beyond = λ p l. refl;
   }
 
-  pub row-more : (width q : ℕ) (has : List ℕ) (ys : List ℤ) (v : ℕ) (z : ℤ) → RowFits at width total count mwh sizes had xs → q < width
+  row-more : (width q : ℕ) (has : List ℕ) (ys : List ℤ) (v : ℕ) (z : ℤ) → RowFits at width total count mwh sizes had xs → q < width
       → Row at total count mwh sizes minus had xs q has ys → v ≡ upTo total (getD sizes q 0) count mwh → z ≡ signed (getD minus q false) (v - getD has q 0)
       → Row at total count mwh sizes minus had xs (q + 1) (set has q v) (set ys (at + q) z)
   row-more width q has ys v z f l r e s = record {
@@ -105,5 +120,40 @@ module _ (at total count mwh : ℕ) (sizes : List ℕ) (minus : List Bool) (had 
           → signed (getD minus q false) (v - getD has q 0) ≡ signed (getD minus q false) (upTo total (getD sizes q 0) count mwh - getD had q 0)
       still q a b = rw (a, b)
 
-  pub row-all : (width q : ℕ) (has : List ℕ) (ys : List ℤ) → q ≤ width → width ≤ q → Row at total count mwh sizes minus had xs q has ys → Row at total count mwh sizes minus had xs width has ys
-  row-all width q has ys l m r = let e : q ≡ width = omega arith in rw e at r
+  -- a place of size 0 stands already
+  row-idle : (width p q : ℕ) (has : List ℕ) (ys : List ℤ) → RowFits at width total count mwh sizes had xs → p ≤ q → q ≤ width → ((i : ℕ) → p ≤ i → i < q → getD sizes i 0 ≡ 0)
+      → Row at total count mwh sizes minus had xs p has ys → Row at total count mwh sizes minus had xs q has ys
+  row-idle width p q has ys f l m n r = record {
+    has-long = r .has-long;
+    has-more = λ k o. elim (decLt k p) [
+      | yes y ↦ r .has-more k y
+      | no y ↦ omega (arith, r .has-still k (omega arith), nothing k (omega arith) o, f .grows k (omega arith))
+    ];
+    has-still = λ k o. r .has-still k (omega arith);
+    long = r .long;
+    inside = λ k o. elim (decLt k p) [
+      | yes y ↦ r .inside k y
+      | no y ↦ r .beyond (at + k) (omega arith) ∙ f .blank k (omega arith) ∙ signed-nothing (getD minus k false) _ (omega (arith, nothing k (omega arith) o))
+    ];
+    before = r .before;
+    beyond = λ k o. r .beyond k (omega arith);
+  }
+    where
+      nothing : (k : ℕ) → p ≤ k → k < q → 0 ≡ upTo total (getD sizes k 0) count mwh
+      nothing k a b = upTo-nothing total (getD sizes k 0) count mwh (n k a b)
+
+  -- the next listed place
+  pub row-next : (width places k : ℕ) (live has : List ℕ) (ys : List ℤ) (v : ℕ) (z : ℤ) → RowFits at width total count mwh sizes had xs → Listed sizes width live places → k < places
+      → Row at total count mwh sizes minus had xs (reached live k) has ys
+      → v ≡ upTo total (getD sizes (getD live k 0) 0) count mwh → z ≡ signed (getD minus (getD live k 0) false) (v - getD has (getD live k 0) 0)
+      → Row at total count mwh sizes minus had xs (reached live (k + 1)) (set has (getD live k 0) v) (set ys (at + getD live k 0) z)
+  row-next width places k live has ys v z f l m r e s =
+      let q = getD live k 0 in
+      let inside : getD live k 0 < width = l .place k m in
+      rw (reached-more live k) (row-more width q has ys v z f inside (row-idle width (reached live k) q has ys f (l .rises k m) (omega arith) (λ i a b. l .between k i m a b) r) e s)
+
+  pub row-all : (width places k : ℕ) (live has : List ℕ) (ys : List ℤ) → RowFits at width total count mwh sizes had xs → Listed sizes width live places → k ≤ places → places ≤ k
+      → Row at total count mwh sizes minus had xs (reached live k) has ys → Row at total count mwh sizes minus had xs width has ys
+  row-all width places k live has ys f l a b r =
+      let e : k ≡ places = omega arith in
+      row-idle width (reached live places) width has ys f (reached-most sizes width live places l) (omega arith) (l .after) (rw e at r)

@@ -1,30 +1,28 @@
 // The shares of one group's members, written into the hour's cells.
-// The contracts cite `scheduled` and `shared` of rules' Hour, and specs/ for the cells' places.
-use rules::Hour;
+// The contracts cite `amount` and `upTo` of rules' Group, and specs/, which has them in the hour's words.
 use rules::InternalSequence;
 use rules::Running;
 ghost use mathlib.Core.Path.{_≡_};
 ghost use Prim.Native.Nat.{_+_, _-_, _*_, _≤_, _<_};
+ghost use lib.ListN.{length};
 ghost use Rattle.rules.specs.Group.{amount, upTo};
-ghost use Rattle.rules.specs.Hour.{scheduled};
-ghost use Rattle.members.specs.Shared.{DeliveriesSmall, SourceRun, SourceRuns, GroupGiven, SharedInto};
+ghost use Rattle.members.specs.Shared.{SourceRun};
 ghost use Rattle.members.specs.Amounts.{setFour, someTaken};
-ghost use Rattle.members.specs.Rows.{SizesSmall, RowFits, Row};
-ghost use Rattle.members.specs.Members.{RowsShared};
+ghost use Rattle.members.specs.Live.{Listed};
+ghost use Rattle.members.specs.Rows.{RowFits, Row};
+ghost use Rattle.members.specs.Members.{MwhsSmall, scheduledIn, RowsGiven, RowsWritten};
 
 // The group's MWh.
-pub fn total_of(h: Hour, numbers: [InternalSequence; 32], number: u32) -> u64
-    requires { ⌜ DeliveriesSmall h ⌝ }
-    ensures { λ r. ⌜ (r ≡ scheduled h numbers number (h .ndeliveries)) × (r ≤ 64_000) ⌝ }
+pub fn total_of(mwhs: &[u64; 32], n: usize, numbers: [InternalSequence; 32], number: u32) -> u64
+    requires { ⌜ MwhsSmall (now mwhs) n ⌝ }
+    ensures { λ r. ⌜ (r ≡ scheduledIn (now (mwhs .entry)) numbers number n) × (r ≤ 64_000) ⌝ }
 {
-    let n = h.ndeliveries;
     let mut sum: u64 = 0;
     let mut j = 0;
     while j < n {
         let x = numbers[j];
         if x.0 == number {
-            let t = h.deliveries[j];
-            sum += t.mwh as u64;
+            sum += mwhs[j];
         }
         j += 1;
     }
@@ -81,22 +79,41 @@ pub fn set_source(
     minus[at + 3] = wx < wy;
 }
 
-// What the members so far have of a size; no division for a size of 0.
+// The places below width whose size is not 0, and how many.
+fn list_live(live: &mut [usize; 128], sizes: &[u64; 128], width: usize) -> usize
+    requires { ⌜ (width ≤ 128) × (length (now live) ≡ 128) ⌝ }
+    ensures { λ r. ⌜ Listed (now (sizes .entry)) width (now (live .exit)) r ⌝ }
+{
+    let mut k = 0;
+    let mut q = 0;
+    while q < width {
+        live[k] = q;
+        if sizes[q] != 0 {
+            k += 1;
+        }
+        q += 1;
+    }
+    k
+}
+
+// What the members so far have of a size; with all of the group's MWh, all of it.
 fn part(total: u64, size: u64, count: u64, mwh: u64) -> u64
-    requires { ⌜ (size ≤ 100_000_000_000_000) × (mwh ≤ 64_000) ⌝ }
+    requires { ⌜ (size ≤ 100_000_000_000_000) × (mwh ≤ 64_000) × (0 < count) ⌝ }
     ensures { λ r. ⌜ r ≡ upTo total size count mwh ⌝ }
 {
-    if size == 0 {
-        return 0;
+    if mwh == total {
+        return size;
     }
     shares::part_up_to(total, size, count, mwh)
 }
 
-// One member's cells.
+// One member's cells at the live places.
 fn share_row(
     cells: &mut [i64],
     at: usize,
     width: usize,
+    live: &[usize; 128],
+    places: usize,
     sizes: &[u64; 128],
     minus: &[bool; 128],
     had: &mut [u64; 128],
@@ -104,33 +121,36 @@ fn share_row(
     count: u64,
     mwh: u64,
 )
-    requires { ⌜ RowFits at width total count mwh (now sizes) (now had) (now cells) ⌝ }
+    requires { ⌜ RowFits at width total count mwh (now sizes) (now had) (now cells) × Listed (now sizes) width (now live) places ⌝ }
     ensures { λ _. ⌜ Row at total count mwh (now (sizes .entry)) (now (minus .entry)) (now (had .entry)) (now (cells .entry)) width (now (had .exit)) (now (cells .exit)) ⌝ }
 {
-    let mut q = 0;
-    while q < width {
+    let mut k = 0;
+    while k < places {
+        let q = live[k];
         let with = part(total, sizes[q], count, mwh);
         cells[at + q] = shares::share_of(minus[q], with, had[q]);
         had[q] = with;
-        q += 1;
+        k += 1;
     }
 }
 
-// The members' rows in deck order.
+// The members' rows in deck order, where 0 stood; each has width places.
 pub fn share_rows(
     cells: &mut [i64],
-    h: Hour,
+    width: usize,
+    n: usize,
+    mwhs: &[u64; 32],
     numbers: [InternalSequence; 32],
     number: u32,
     sizes: &[u64; 128],
     minus: &[bool; 128],
     total: u64,
 )
-    requires { ⌜ GroupGiven h numbers number total (now cells) × SizesSmall (h .nsources * 4) (now sizes) ⌝ }
-    ensures { λ _. ⌜ RowsShared h numbers number (now (sizes .entry)) (now (minus .entry)) (now (cells .entry)) (now (cells .exit)) ⌝ }
+    requires { ⌜ RowsGiven width n (now mwhs) numbers number total (now sizes) (now cells) ⌝ }
+    ensures { λ _. ⌜ RowsWritten width n (now (mwhs .entry)) numbers number total (now (sizes .entry)) (now (minus .entry)) (now (cells .entry)) (now (cells .exit)) ⌝ }
 {
-    let width = h.nsources * 4;
-    let n = h.ndeliveries;
+    let mut live: [usize; 128] = [0; 128];
+    let places = list_live(&mut live, sizes, width);
     let mut had: [u64; 128] = [0; 128];
     let mut count: u64 = 0;
     let mut mwh: u64 = 0;
@@ -138,13 +158,14 @@ pub fn share_rows(
     while j < n {
         let x = numbers[j];
         if x.0 == number {
-            let t = h.deliveries[j];
             count += 1;
-            mwh += t.mwh as u64;
+            mwh += mwhs[j];
             share_row(
                 cells,
                 j * width,
                 width,
+                &live,
+                places,
                 sizes,
                 minus,
                 &mut had,
@@ -155,32 +176,4 @@ pub fn share_rows(
         }
         j += 1;
     }
-}
-
-// The members' shares of what the group took.
-pub fn share_group(
-    cells: &mut [i64],
-    h: Hour,
-    numbers: [InternalSequence; 32],
-    number: u32,
-    before: [Running; 32],
-    after: [Running; 32],
-    settled: [Running; 32],
-    total: u64,
-)
-    requires { ⌜ GroupGiven h numbers number total (now cells) × SourceRuns before after settled ⌝ }
-    ensures { λ _. ⌜ SharedInto h numbers number before after settled (now (cells .entry)) (now (cells .exit)) ⌝ }
-{
-    let mut sizes: [u64; 128] = [0; 128];
-    let mut minus: [bool; 128] = [false; 128];
-    let n = h.nsources;
-    let mut i = 0;
-    while i < n {
-        let s = before[i];
-        let t = after[i];
-        let u = settled[i];
-        set_source(&mut sizes, &mut minus, i, s, t, u);
-        i += 1;
-    }
-    share_rows(cells, h, numbers, number, &sizes, &minus, total);
 }

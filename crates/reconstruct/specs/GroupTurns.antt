@@ -2,22 +2,27 @@
 use mathlib.Core.Bool.{true}
 use mathlib.Core.List.{List, map}
 use mathlib.Core.Path.{_≡_, sym, ap, _∙_}
-use Prim.Native.Nat.{ℕ, suc, _-_, _*_, _≤_, _<_}
+use Prim.Native.Nat.{ℕ, suc, _+_, _-_, _*_, _≤_, _<_}
 use native.Mathlib.Nat.{mul-le-mul}
 use native.Mathlib.Omega.{arith}
+use borrow.Author.Tests.{eqb-true}
 use lib.IntN.{ℤ, pos}
 use lib.ListN.{length, replicate, length-replicate}
-use Rattle.directs.specs.Lines.{LinesFit, TookFit}
+use Rattle.balance.specs.AnswerCells.{cellAt}
 use Rattle.group.specs.Settling.{settled}
 use Rattle.group.specs.declared.Settled.{Settled}
 use Rattle.group.specs.declared.Verdict.the-variants.{Done, Refused}
+use Rattle.members.specs.Amounts.{each-place}
 use Rattle.members.specs.Shared.{DeliveriesSmall, SourceRuns, GroupGiven, SharedInto}
+use Rattle.merit.specs.LevelNeverBelowB.{stateAt, Moved}
+use Rattle.merit.specs.RemainderMoves.{shift-moved, remainder-moves}
 use Rattle.reconstruct.specs.GroupsOneByOne.{leftAfter, directedTo, Reached, reached-start, reached-pass, reached-turn, reached-refused}
 use Rattle.reconstruct.specs.HighestNumber.{Highest}
-use Rattle.reconstruct.specs.StatesStayReady.{Standing, groups-stand, lines-took, lines-ready, lines-took-fit, lines-fit}
+use Rattle.reconstruct.specs.LinesTaken.{LinesFit}
+use Rattle.reconstruct.specs.StatesStayReady.{Standing, groups-stand, lines-took, lines-ready, lines-fit}
 use Rattle.roundtrip.specs.GivenHour.{valid-given}
 use Rattle.rules.specs.Group.{opened, remainder}
-use Rattle.rules.specs.Hour.{member, scheduled, counted, tookAll, groups}
+use Rattle.rules.specs.Hour.{internalAt, member, scheduled, counted, tookAll, groups}
 use Rattle.rules.specs.Refusals.{Outcome, accepted, refused}
 use Rattle.rules.specs.Writing.{valid}
 use Rattle.rules.specs.declared.Hour.{Hour}
@@ -83,11 +88,8 @@ module _ (h : Hour) (ns : List InternalSequence) where
         let e : 1000 - (1000 - suc x) ≡ suc x = omega arith in
         rw e at (groups-stand h ns (f .valid) (1000 - suc x) (omega arith) (f .reached .progress) (f .reached .run))
 
-    pub turn-lines : LinesFit (member ns x) (h .directs) ss (h .ndirects)
+    pub turn-lines : LinesFit (member ns x) (h .directs) ss (h .nsources) (h .ndirects)
     turn-lines = rw (f .reached .states) (lines-fit h ns (f .valid) x (f .reached .progress) stands)
-
-    pub turn-took : (ts : List Running) → ts ≡ directedTo h ns x ss → TookFit ss ts (h .nsources)
-    turn-took ts e = rw (e, f .reached .states) (lines-took-fit h ns x (f .reached .progress) stands)
 
     pub turn-ready : (ts : List Running) → ts ≡ directedTo h ns x ss → AllReady ts (h .nsources)
     turn-ready ts e = rw (e, f .reached .states) (lines-ready h ns x (f .reached .progress) stands)
@@ -95,8 +97,18 @@ module _ (h : Hour) (ns : List InternalSequence) where
     pub turn-deliveries : DeliveriesSmall h
     turn-deliveries = let g = valid-given h (f .valid) .deliveries in record { few = g .few; mwh = λ j l. g .entry j l .mwh .most }
 
+    -- its members' cells are 0 yet
+    pub turn-blank : (k q : ℕ) → k < h .ndeliveries → member ns x k ≡ true → q < h .nsources * 4 → cellAt xs (k * (h .nsources * 4) + q) ≡ pos 0
+    turn-blank k q l e m =
+        each-place (λ y. cellAt xs (k * (h .nsources * 4) + y) ≡ pos 0) (h .nsources)
+        (λ i item d. f .reached .held .at k i item l d ∙ stands .balanced .untouched k i item (omega (arith, eqb-true (internalAt ns k) x e))) q m
+
     -- the states after the D lines, the group's MWh, and the remainder's answer
     module _ (ts : List Running) (total : ℕ) (r : Settled) (w : Worked x ss ts total r) where
+      -- the remainder renews v alone
+      pub turn-moved : r .verdict ≡ Done → (i : ℕ) → Moved (stateAt ts i) (stateAt (r .states) i)
+      turn-moved v i = shift-moved (turn-ready ts (w .lines) .ready i .sound) (remainder-moves _ _ _ _ ts (r .states) (done-outcome ts _ r (w .settled) v) .each i)
+
       runs : r .verdict ≡ Done → SourceRuns ss ts (r .states)
       runs v i =
           let a = turn-ready ts (w .lines) in

@@ -1,5 +1,7 @@
 pub mod Answers
 pub mod StatesOpened
+pub mod MwhsListed
+pub mod LinesTaken
 pub mod StatesStayReady
 pub mod HighestNumber
 pub mod GroupsOneByOne

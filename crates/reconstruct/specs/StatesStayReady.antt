@@ -6,8 +6,8 @@ use Prim.Native.Nat.{ℕ, suc, _-_, _≤_}
 use native.Mathlib.Omega.{arith}
 use Rattle.accounts.specs.ValidHour.{valid-balances, valid-small, valid-levels}
 use Rattle.balance.specs.HourBalances.{plantAt, afterLines, Grouped, started, started-at, groups-keep, Balanced, lines-left, lines-directed, grouped-balanced, none-balanced, start-balanced}
-use Rattle.directs.specs.Lines.{LinesFit, TookFit}
 use Rattle.merit.specs.LevelNeverBelowB.{stateAt, Took}
+use Rattle.reconstruct.specs.LinesTaken.{LinesFit}
 use Rattle.roundtrip.specs.GivenHour.{GivenHour, valid-given}
 use Rattle.rules.specs.Hour.{member, Progress, groups}
 use Rattle.rules.specs.Refusals.{accepted}
@@ -28,13 +28,6 @@ module _ (h : Hour) (ns : List InternalSequence) where
 
   pub lines-ready : (x : ℕ) (p : Progress) → Standing (suc x) p → AllReady (afterLines h ns x p) (h .nsources)
   lines-ready x p s = record { n-small = s .ready .n-small; ready = λ i. took-ready _ _ (s .ready .ready i) (lines-took x p s i) }
-
-  pub lines-took-fit : (x : ℕ) (p : Progress) → Standing (suc x) p → TookFit (p .states) (afterLines h ns x p) (h .nsources)
-  lines-took-fit x p s = record {
-    n-small = s .ready .n-small;
-    more = λ i. lines-took x p s i .more;
-    small = λ i. let r = lines-ready x p s .ready i in omega (arith, r .sound .part, r .small .b);
-  }
 
   grouped-standing : (x : ℕ) (p q : Progress) → Standing (suc x) p → Grouped h ns x p q → Standing x q
   grouped-standing x p q s g = record {
@@ -59,11 +52,12 @@ module _ (h : Hour) (ns : List InternalSequence) where
     groups-stand =
         groups-keep h ns Standing start-standing (λ x p z s. record { balanced = none-balanced h ns x p (s .balanced); ready = s .ready }) grouped-standing
 
-    pub lines-fit : (x : ℕ) (p : Progress) → Standing (suc x) p → LinesFit (member ns x) (h .directs) (p .states) (h .ndirects)
+    pub lines-fit : (x : ℕ) (p : Progress) → Standing (suc x) p → LinesFit (member ns x) (h .directs) (p .states) (h .nsources) (h .ndirects)
     lines-fit x p s = record {
+      n-small = given .sources .few;
       k-small = given .directs .few;
-      source = λ i l. omega (arith, given .directs .entry i l .source, given .sources .few);
-      delivery = λ i l. omega (arith, given .directs .entry i l .delivery, given .deliveries .few);
+      source = λ q l. given .directs .entry q l .source;
+      delivery = λ q l. omega (arith, given .directs .entry q l .delivery, given .deliveries .few);
       sound = s .balanced .sound;
       small = λ i. s .ready .ready i .small;
       percent = λ i. omega (arith, lines-left h ns x i (h .ndirects), s .balanced .percent i);

@@ -11,10 +11,12 @@ ghost use Rattle.rules.specs.Group.{opened};
 ghost use Rattle.rules.specs.Writing.{valid};
 ghost use Rattle.reconstruct.specs.Answers.{reconstructedOf};
 ghost use Rattle.reconstruct.specs.HighestNumber.{above, Highest};
-ghost use Rattle.reconstruct.specs.GroupTurns.{TurnFits, Turned};
+ghost use Rattle.reconstruct.specs.MwhsListed.{Mwhs};
+ghost use Rattle.reconstruct.specs.GroupTurns.{Turned};
 ghost use Rattle.reconstruct.specs.CellsWritten.{OpenFits, OpenPut};
 use group::Settled;
 use group::Verdict;
+use rules::Delivery;
 use rules::Hour;
 use rules::InternalSequence;
 use rules::Plant;
@@ -56,6 +58,21 @@ fn open_all(sources: [Source; 32]) -> [Running; 32]
         i += 1;
     }
     states
+}
+
+// The MWh of the first n deliveries.
+fn mwhs_of(deliveries: [Delivery; 32], n: usize) -> [u64; 32]
+    requires { ⌜ n ≤ 32 ⌝ }
+    ensures { λ r. ⌜ Mwhs deliveries n r ⌝ }
+{
+    let mut mwhs: [u64; 32] = [0; 32];
+    let mut j = 0;
+    while j < n {
+        let t = deliveries[j];
+        mwhs[j] = t.mwh as u64;
+        j += 1;
+    }
+    mwhs
 }
 
 // The greater of best and one more than y, where y is below x.
@@ -121,40 +138,7 @@ fn copy_out(cells: &[i64; 4160], out: &mut [i64], n: usize)
     }
 }
 
-// One group: its D lines, its remainder, and its members' shares.
-fn take_turn(
-    h: Hour,
-    numbers: [InternalSequence; 32],
-    number: u32,
-    states: [Running; 32],
-    by_price: bool,
-    cells: &mut [i64],
-) -> Settled
-    requires { ⌜ TurnFits h numbers number states (now cells) ⌝ }
-    ensures { λ r. ⌜ Turned h numbers number r (now (cells .exit)) ⌝ }
-{
-    let lines = h.directs;
-    let after = directs::allocate_lines(states, lines, h.ndirects, numbers, number);
-    let took = directs::took_all(states, after, h.nsources);
-    let total = members::total_of(h, numbers, number);
-    let end = group::settle(
-        InternalSequence(number),
-        h.nsources,
-        total,
-        took,
-        after,
-        by_price,
-    );
-    let verdict = end.verdict;
-    let Verdict::Done = verdict else {
-        return end;
-    };
-    let settled = end.states;
-    members::share_group(cells, h, numbers, number, states, after, settled, total);
-    end
-}
-
-// Every number that a delivery has, from the highest down; the first refusal ends the run.
+// Every number that a delivery has, from the highest down: its D lines, its remainder, and its members' shares; the first refusal ends the run.
 fn take_turns(
     h: Hour,
     numbers: [InternalSequence; 32],
@@ -164,24 +148,67 @@ fn take_turns(
     requires { ⌜ (valid h ≡ true) × (now cells ≡ replicate 4160 (pos 0)) ⌝ }
     ensures { λ r. ⌜ Turned h numbers 0 r (now (cells .exit)) ⌝ }
 {
-    let n = h.ndeliveries;
+    let n = h.nsources;
     let sources = h.sources;
-    let mut states = open_all(sources);
-    let mut x = highest(numbers, n, 1000);
+    let deliveries = h.deliveries;
+    let mwhs = mwhs_of(deliveries, h.ndeliveries);
+    let mut end = Settled {
+        verdict: Verdict::Done,
+        states: open_all(sources),
+    };
+    let mut x = highest(numbers, h.ndeliveries, 1000);
     while 0 < x {
-        let end = take_turn(h, numbers, x - 1, states, by_price, cells);
+        let number = x - 1;
+        let k = h.ndirects;
+        let before = end.states;
+        let mut after = before;
+        let mut took: u64 = 0;
+        let mut q = 0;
+        while q < k {
+            let line = h.directs[q];
+            let source = line.source;
+            let delivery = line.delivery;
+            let its = numbers[delivery];
+            if its.0 == number {
+                let s = after[source];
+                let t = group::allocate(s, line);
+                took += (t.d - s.d) as u64;
+                after[source] = t;
+            }
+            q += 1;
+        }
+        let total = members::total_of(&mwhs, h.ndeliveries, numbers, number);
+        end = group::settle(InternalSequence(number), n, total, took, after, by_price);
         let verdict = end.verdict;
         let Verdict::Done = verdict else {
             return end;
         };
-        let settled = end.states;
-        states = settled;
-        x = highest(numbers, n, x - 1);
+        let mut sizes: [u64; 128] = [0; 128];
+        let mut minus: [bool; 128] = [false; 128];
+        let mut i = 0;
+        while i < n {
+            let s = before[i];
+            let t = after[i];
+            let u = end.states[i];
+            if members::takes(s, t, u) {
+                members::set_source(&mut sizes, &mut minus, i, s, t, u);
+            }
+            i += 1;
+        }
+        members::share_rows(
+            cells,
+            n * 4,
+            h.ndeliveries,
+            &mwhs,
+            numbers,
+            number,
+            &sizes,
+            &minus,
+            total,
+        );
+        x = highest(numbers, h.ndeliveries, number);
     }
-    Settled {
-        verdict: Verdict::Done,
-        states: states,
-    }
+    end
 }
 
 fn run(h: Hour, out: &mut [i64], by_price: bool) -> Reconstructed

@@ -1,11 +1,11 @@
--- `members::part` meets its contract: of a size of 0 the members have 0.
+-- `members::part` meets its contract: with all of the MWh the members have all.
 use borrow.Author.Needs.{needs}
-use Rattle.members.specs.Rows.{upTo-nothing}
+use Rattle.members.specs.Rows.{upTo-all}
 use Rattle.members.proofs.part.Statement.{statement}
 use Rattle.members.proofs.part.Tie as tie
 
 returns : tie.Need-returns
-returns c = let a = c .before .args in upTo-nothing (a .total) (a .size) (a .count) (a .mwh) (c .if1 .taken)
+returns c = let a = c .before .args in upTo-all (a .total) (a .size) (a .count) (a .mwh) (c .if1 .taken) (c .before .pre .2)
 
 part-up-to-requires : tie.Need-part-up-to-requires
 part-up-to-requires c κs = search needs
