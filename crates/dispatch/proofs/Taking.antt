@@ -18,7 +18,7 @@ use Rattle.merit.specs.Settled.{more, more-strict, settled-block}
 use Rattle.rules.specs.Words.{sumTo}
 
 -- zeros
-zeros : (i : ℕ) → at (replicate 32 0) i ≡ 0
+pub zeros : (i : ℕ) → at (replicate 32 0) i ≡ 0
 zeros i = elim (decLt i 32) [ yes l ↦ getD-replicate 32 i 0 0 l | no l ↦ List·getD-eq-default (replicate 32 0) 0 {n = i} (omega arith) ]
 
 module _ (up : Bool) (one step cap : List ℕ) (n : ℕ) where

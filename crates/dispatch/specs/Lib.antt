@@ -1,3 +1,4 @@
 pub mod Taken
+pub mod Rivals
 pub mod LinesOfPrices
 pub mod TakenIsPlain

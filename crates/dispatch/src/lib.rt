@@ -1,6 +1,6 @@
 // Two engines with one promise, for unloading (up is false) and credits (up is true): the total is taken of sources with room, the best MWh first.
-// A source enters as a falling line of merit, in five arrays. `plain` takes one MWh at a time; `price` finds a mark, takes all above it at once, and
-// the rest by blocks. The definitions are in specs/ and in `marks`. Internal: they know no hour, and the caller gives lines and room.
+// A source enters as a falling line of merit, in five arrays. `plain` takes one MWh at a time; `price` leaves out sources that cannot compete, finds
+// a mark, takes all above it at once, and the rest by blocks. The definitions are in specs/ and in `marks`. Internal: they know no hour, and the caller gives lines and room.
 ghost use mathlib.Core.Bool.{true, false};
 ghost use mathlib.Core.Path.{_≡_};
 ghost use Prim.Native.Nat.{ℕ, _+_, _*_, _≤_, _<_, _^_};
@@ -9,6 +9,7 @@ ghost use Rattle.rules.specs.Words.{sumTo};
 ghost use Rattle.marks.specs.Lines.{at, Falls, Source, Table, Scales};
 ghost use Rattle.dispatch.specs.LinesOfPrices.{Numbers, Lined, linePrice};
 ghost use Rattle.dispatch.specs.Taken.{Sources, Taken, Next, Left, Small, Highest, Turn, Turns, Going, Level, Block, Above};
+ghost use Rattle.dispatch.specs.Rivals.{Bar, Places, Rivals, Gathered, Spread};
 
 pub struct Line {
     pub one: u64,
@@ -275,8 +276,8 @@ fn take_level(
     s
 }
 
-// The engine by price: all above a mark at once, and the rest block by block.
-pub fn price(
+// Of all these sources: what is above a mark at once, and the rest block by block.
+fn take_best(
     up: bool,
     one: &[u64; 32],
     step: &[u64; 32],
@@ -317,4 +318,106 @@ pub fn price(
         );
     }
     taken
+}
+
+// The merit, plus 1, of the last MWh of a source that has room for the whole total, the best there is; 0 where there is none.
+fn bar_of(one: &[u64; 32], step: &[u64; 32], cap: &[u64; 32], n: usize, total: u64) -> u64
+    requires { ⌜ Sources (now one) (now step) (now cap) n ⌝ }
+    ensures { λ b. ⌜ Bar (now (one .entry)) (now (step .entry)) (now (cap .entry)) n total b ⌝ }
+{
+    let last = marks::less(total, 1);
+    let mut bar: u64 = 0;
+    let mut i = 0;
+    while i < n {
+        let m = next(one[i], step[i], cap[i], last);
+        if bar < m {
+            bar = m;
+        }
+        i += 1;
+    }
+    bar
+}
+
+// The places of the sources that reach the bar, and how many they are.
+fn find_rivals(bar: u64, one: &[u64; 32], n: usize, places: &mut [usize; 32]) -> usize
+    requires { ⌜ n ≤ 32 ⌝ }
+    requires long { ⌜ length (now places) ≡ 32 ⌝ }
+    ensures { λ m. ⌜ Rivals bar (now (one .entry)) n (now (places .exit)) m ⌝ }
+{
+    let mut m = 0;
+    let mut i = 0;
+    while i < n {
+        places[m] = i;
+        if bar <= one[i] {
+            m += 1;
+        }
+        i += 1;
+    }
+    m
+}
+
+// What stands at these places, close together.
+fn gather(all: &[u64; 32], places: &[usize; 32], m: usize, few: &mut [u64; 32])
+    requires { ⌜ Places 32 (now places) m ⌝ }
+    requires long { ⌜ length (now few) ≡ 32 ⌝ }
+    ensures { λ _. ⌜ Gathered (now (all .entry)) (now (places .entry)) m (now (few .exit)) ⌝ }
+{
+    let mut k = 0;
+    while k < m {
+        let i = places[k];
+        let x = all[i];
+        few[k] = x;
+        k += 1;
+    }
+}
+
+// And back: 0 at every other place.
+fn spread(few: &[u64; 32], places: &[usize; 32], m: usize) -> [u64; 32]
+    requires { ⌜ Places 32 (now places) m ⌝ }
+    ensures { λ t. ⌜ Spread (now (few .entry)) (now (places .entry)) m t ⌝ }
+{
+    let mut all: [u64; 32] = [0; 32];
+    let mut k = 0;
+    while k < m {
+        let i = places[k];
+        let x = few[k];
+        all[i] = x;
+        k += 1;
+    }
+    all
+}
+
+// The engine by price. Where a source has room for the whole total, those whose first MWh is below its last have no part and are left out.
+pub fn price(
+    up: bool,
+    one: &[u64; 32],
+    step: &[u64; 32],
+    span: &[u64; 32],
+    inv: &[u64; 32],
+    cap: &[u64; 32],
+    n: usize,
+    total: u64,
+) -> [u64; 32]
+    requires { ⌜ Table (now one) (now step) (now span) (now inv) (now cap) n ⌝ }
+    requires room { ⌜ total ≤ sumTo (at (now cap)) n ⌝ }
+    ensures { λ t. ⌜ Taken up (now (one .entry)) (now (step .entry)) (now (cap .entry)) n total t ⌝ }
+{
+    let bar = bar_of(one, step, cap, n, total);
+    if bar == 0 {
+        return take_best(up, one, step, span, inv, cap, n, total);
+    }
+    let mut places: [usize; 32] = [0; 32];
+    let m = find_rivals(bar, one, n, &mut places);
+    let mut o: [u64; 32] = [0; 32];
+    let mut d: [u64; 32] = [0; 32];
+    let mut w: [u64; 32] = [0; 32];
+    let mut v: [u64; 32] = [0; 32];
+    let mut c: [u64; 32] = [0; 32];
+    gather(one, &places, m, &mut o);
+    gather(step, &places, m, &mut d);
+    gather(span, &places, m, &mut w);
+    gather(inv, &places, m, &mut v);
+    gather(cap, &places, m, &mut c);
+    let few = take_best(up, &o, &d, &w, &v, &c, m, total);
+    spread(&few, &places, m)
 }
