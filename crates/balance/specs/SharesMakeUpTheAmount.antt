@@ -1,17 +1,15 @@
 -- "Members .. each split by schedule": the members' shares of an amount make up the amount, and who is no member has no share.
 -- No share is greater than the amount.
-use mathlib.Core.Bool.{Bool, true, false}
+use mathlib.Core.Bool.{false}
 use mathlib.Core.List.{List}
-use mathlib.Core.Path.{_≡_, refl, ap, _∙_}
-use Prim.Native.Nat.{ℕ, zero, suc, _+_, _-_, _*_, _/_, _≤_, _<_}
-use native.Mathlib.Nat.{mul-div-cancel, mul-le-mul-left, mul-zero, zero-div}
+use mathlib.Core.Path.{_≡_, refl, sym, ap, _∙_}
+use Prim.Native.Nat.{ℕ, suc, _+_, _-_, _≤_, _<_}
 use native.Mathlib.Omega.{arith}
-use borrow.Author.Tests.{ne-eqb}
-use lib.Dec.{eqb}
 use lib.IntN.{pos}
 use lib.ListN.{getD}
 use Rattle.laws.specs.Signed.{value, sumℤ, signed-zero, sumℤ-increases}
-use Rattle.laws.specs.Sums.{sumTo-grows, sumTo-longer, div-grows, part-most}
+use Rattle.laws.specs.Parts.{upTo-start, upTo-grows, upTo-all, upTo-most}
+use Rattle.laws.specs.Sums.{sumTo-grows, sumTo-longer}
 use Rattle.rules.specs.Group.{Amount, signed, upTo}
 use Rattle.rules.specs.Hour.{member, scheduled, counted, share}
 use Rattle.rules.specs.Sequences.{noDelivery}
@@ -25,42 +23,24 @@ module _ (h : Hour) (ns : List InternalSequence) (x : ℕ) where
   shareTo size j = upTo (scheduled h ns x (h .ndeliveries)) size (counted ns x j) (scheduled h ns x j)
 
   shareTo-zero : (size : ℕ) → shareTo size 0 ≡ 0
-  unfolding shareTo upTo sumTo
-  shareTo-zero size = go (eqb (scheduled h ns x (h .ndeliveries)) 0)
-    where
-      go : (y : Bool) → (if y then 0 else size * 0 / scheduled h ns x (h .ndeliveries)) ≡ 0
-      go true = refl
-      go false = rw (mul-zero size) (zero-div _)
+  unfolding shareTo sumTo
+  shareTo-zero size = sym (upTo-start (scheduled h ns x (h .ndeliveries)) size)
 
   shareTo-grows : (size j : ℕ) → shareTo size j ≤ shareTo size (suc j)
-  unfolding shareTo upTo
-  shareTo-grows size j = go (eqb (scheduled h ns x (h .ndeliveries)) 0)
-    where
-      first : (a b : ℕ) → a ≤ b → (if eqb a 0 then 0 else size) ≤ (if eqb b 0 then 0 else size)
-      first zero b l = omega arith
-      first (suc a) b l = rw (ne-eqb (suc a) 0 (λ e. omega arith), ne-eqb b 0 (λ e. omega arith)) (omega arith)
-
-      go : (y : Bool) → (if y then (if eqb (counted ns x j) 0 then 0 else size) else size * scheduled h ns x j / scheduled h ns x (h .ndeliveries)) ≤
-          (if y then (if eqb (counted ns x (suc j)) 0 then 0 else size) else size * scheduled h ns x (suc j) / scheduled h ns x (h .ndeliveries))
-      go true = first _ _ (sumTo-grows (λ i. if member ns x i then 1 else 0) j)
-      go false = div-grows _ _ _ (mul-le-mul-left size (sumTo-grows (λ i. if member ns x i then getD (h .deliveries) i noDelivery .mwh else 0) j))
+  unfolding shareTo
+  shareTo-grows size j =
+      upTo-grows (scheduled h ns x (h .ndeliveries)) size (counted ns x j) (scheduled h ns x j) (counted ns x (suc j)) (scheduled h ns x (suc j))
+      (sumTo-grows (λ i. if member ns x i then 1 else 0) j) (sumTo-grows (λ i. if member ns x i then getD (h .deliveries) i noDelivery .mwh else 0) j)
 
   shareTo-all : (size : ℕ) → 0 < counted ns x (h .ndeliveries) → shareTo size (h .ndeliveries) ≡ size
-  unfolding shareTo upTo
-  shareTo-all size l = go (scheduled h ns x (h .ndeliveries))
-    where
-      go : (t : ℕ) → (if eqb t 0 then (if eqb (counted ns x (h .ndeliveries)) 0 then 0 else size) else size * t / t) ≡ size
-      go zero = rw (ne-eqb (counted ns x (h .ndeliveries)) 0 (λ e. omega arith))
-      go (suc t) = rw (ne-eqb (suc t) 0 (λ e. omega arith)) (mul-div-cancel size {n = suc t} (omega arith))
+  unfolding shareTo
+  shareTo-all size l = let t = scheduled h ns x (h .ndeliveries) in sym (upTo-all t size (counted ns x (h .ndeliveries)) t refl l)
 
   shareTo-most : (size j : ℕ) → j ≤ h .ndeliveries → shareTo size j ≤ size
-  unfolding shareTo upTo
-  shareTo-most size j l = go (eqb (scheduled h ns x (h .ndeliveries)) 0) (eqb (counted ns x j) 0)
-    where
-      go : (y z : Bool) → (if y then (if z then 0 else size) else size * scheduled h ns x j / scheduled h ns x (h .ndeliveries)) ≤ size
-      go true true = omega arith
-      go true false = omega arith
-      go false z = part-most size (scheduled h ns x j) (scheduled h ns x (h .ndeliveries)) (sumTo-longer (λ i. if member ns x i then getD (h .deliveries) i noDelivery .mwh else 0) j (h .ndeliveries) l)
+  unfolding shareTo
+  shareTo-most size j l =
+      upTo-most (scheduled h ns x (h .ndeliveries)) size (counted ns x j) (scheduled h ns x j)
+      (sumTo-longer (λ i. if member ns x i then getD (h .deliveries) i noDelivery .mwh else 0) j (h .ndeliveries) l)
 
   -- the shares make up the amount
   pub shares-sum : (a : Amount) → 0 < counted ns x (h .ndeliveries) → sumℤ (share h ns x a) (h .ndeliveries) ≡ value a

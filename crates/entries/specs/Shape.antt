@@ -1,11 +1,14 @@
 -- A label with its padding, and the blank entries past a record's counts, as tests.
 use mathlib.Core.Bool.{Bool, true, false, _&&_}
+use mathlib.Core.List.{List}
 use Prim.Native.Nat.{ℕ, _+_, _-_}
 use lib.Dec.{leb, ltb, eqb}
 use lib.ListN.{length, getD}
 use Rattle.rules.specs.Words.{allTo}
 use Rattle.rules.specs.Fields.{isCharacter}
-use Rattle.rules.specs.Record.{sourceAt, deliveryAt, directAt}
+use Rattle.rules.specs.Group.{noDirect}
+use Rattle.rules.specs.Sequences.{noDelivery}
+use Rattle.rules.specs.Record.{noSource}
 use Rattle.rules.specs.declared.Label.{Label}
 use Rattle.rules.specs.declared.Plant.{Plant}
 use Rattle.rules.specs.declared.Plant.the-variants.{Unit as U, Purchase as P, Fixed as F}
@@ -57,25 +60,25 @@ blankBasis (Mwh v) = false
 unfoldable pub directBlank : Direct → Bool
 directBlank x = blankBasis (x .basis) && (eqb (x .percent) 0 && (eqb (x .source) 0 && eqb (x .delivery) 0))
 
--- the first k entries past each count
-abbrev pub sourcesBlank : Hour → ℕ → Bool
-sourcesBlank h k = allTo (λ i. sourceBlank (sourceAt h (h .nsources + i))) k
+-- the first k entries past a count
+abbrev pub sourcesBlank : List Source → ℕ → ℕ → Bool
+sourcesBlank sources n k = allTo (λ i. sourceBlank (getD sources (n + i) noSource)) k
 
-abbrev pub deliveriesBlank : Hour → ℕ → Bool
-deliveriesBlank h k = allTo (λ i. deliveryBlank (deliveryAt h (h .ndeliveries + i))) k
+abbrev pub deliveriesBlank : List Delivery → ℕ → ℕ → Bool
+deliveriesBlank deliveries n k = allTo (λ i. deliveryBlank (getD deliveries (n + i) noDelivery)) k
 
-abbrev pub directsBlank : Hour → ℕ → Bool
-directsBlank h k = allTo (λ i. directBlank (directAt h (h .ndirects + i))) k
+abbrev pub directsBlank : List Direct → ℕ → ℕ → Bool
+directsBlank directs n k = allTo (λ i. directBlank (getD directs (n + i) noDirect)) k
 
 -- 32 places, and blanks in those past the count
-abbrev pub sourcesRest : Hour → Bool
-sourcesRest h = eqb (length (h .sources)) 32 && sourcesBlank h (32 - h .nsources)
+abbrev pub sourcesRest : List Source → ℕ → Bool
+sourcesRest sources n = eqb (length sources) 32 && sourcesBlank sources n (32 - n)
 
-abbrev pub deliveriesRest : Hour → Bool
-deliveriesRest h = eqb (length (h .deliveries)) 32 && deliveriesBlank h (32 - h .ndeliveries)
+abbrev pub deliveriesRest : List Delivery → ℕ → Bool
+deliveriesRest deliveries n = eqb (length deliveries) 32 && deliveriesBlank deliveries n (32 - n)
 
-abbrev pub directsRest : Hour → Bool
-directsRest h = eqb (length (h .directs)) 32 && directsBlank h (32 - h .ndirects)
+abbrev pub directsRest : List Direct → ℕ → Bool
+directsRest directs n = eqb (length directs) 32 && directsBlank directs n (32 - n)
 
 unfoldable pub restBlank : Hour → Bool
-restBlank h = sourcesRest h && (deliveriesRest h && directsRest h)
+restBlank h = sourcesRest (h .sources) (h .nsources) && (deliveriesRest (h .deliveries) (h .ndeliveries) && directsRest (h .directs) (h .ndirects))

@@ -2,12 +2,10 @@
 // Contracts cite this crate's Shape. Internal: the test of 15 calls it.
 ghost use mathlib.Core.Path.{_≡_};
 ghost use Prim.Native.Nat.{_≤_};
-ghost use Rattle.entries.specs.Shape.{ownByte, padded, ownLabel, blankLabel, blankPlant, blankBasis, sourceBlank, deliveryBlank, directBlank, sourcesRest, deliveriesRest, directsRest, restBlank};
-ghost use Rattle.hour.specs.Tried.{countsOf, Few};
+ghost use Rattle.entries.specs.Shape.{ownByte, padded, ownLabel, blankLabel, blankPlant, blankBasis, sourceBlank, deliveryBlank, directBlank, sourcesRest, deliveriesRest, directsRest};
 use rules::Basis;
 use rules::Delivery;
 use rules::Direct;
-use rules::Hour;
 use rules::Label;
 use rules::Plant;
 use rules::Source;
@@ -35,14 +33,13 @@ fn is_padded(l: Label) -> bool
     ensures { λ r. ⌜ r ≡ padded l ⌝ }
 {
     let n = size(l.len);
+    let mut all = true;
     let mut i: usize = 0;
     while i < 16 {
-        if !own_byte(i < n, l.bytes[i]) {
-            return false;
-        }
+        all = all & own_byte(i < n, l.bytes[i]);
         i += 1;
     }
-    true
+    all
 }
 
 pub fn is_label(l: Label) -> bool
@@ -133,14 +130,15 @@ fn is_blank_direct(x: Direct) -> bool
     x.delivery == 0
 }
 
-fn sources_blank(h: Hour) -> bool
-    requires { ⌜ h .nsources ≤ 32 ⌝ }
-    ensures { λ r. ⌜ r ≡ sourcesRest h ⌝ }
+// The entries past a count.
+
+pub fn sources_blank(sources: [Source; 32], n: usize) -> bool
+    requires { ⌜ n ≤ 32 ⌝ }
+    ensures { λ r. ⌜ r ≡ sourcesRest sources n ⌝ }
 {
-    let n = h.nsources;
     let mut i: usize = 0;
     while i < 32 - n {
-        let x = h.sources[n + i];
+        let x = sources[n + i];
         if !is_blank_source(x) {
             return false;
         }
@@ -149,14 +147,13 @@ fn sources_blank(h: Hour) -> bool
     true
 }
 
-fn deliveries_blank(h: Hour) -> bool
-    requires { ⌜ h .ndeliveries ≤ 32 ⌝ }
-    ensures { λ r. ⌜ r ≡ deliveriesRest h ⌝ }
+pub fn deliveries_blank(deliveries: [Delivery; 32], n: usize) -> bool
+    requires { ⌜ n ≤ 32 ⌝ }
+    ensures { λ r. ⌜ r ≡ deliveriesRest deliveries n ⌝ }
 {
-    let n = h.ndeliveries;
     let mut i: usize = 0;
     while i < 32 - n {
-        let x = h.deliveries[n + i];
+        let x = deliveries[n + i];
         if !is_blank_delivery(x) {
             return false;
         }
@@ -165,32 +162,17 @@ fn deliveries_blank(h: Hour) -> bool
     true
 }
 
-fn directs_blank(h: Hour) -> bool
-    requires { ⌜ h .ndirects ≤ 32 ⌝ }
-    ensures { λ r. ⌜ r ≡ directsRest h ⌝ }
+pub fn directs_blank(directs: [Direct; 32], n: usize) -> bool
+    requires { ⌜ n ≤ 32 ⌝ }
+    ensures { λ r. ⌜ r ≡ directsRest directs n ⌝ }
 {
-    let n = h.ndirects;
     let mut i: usize = 0;
     while i < 32 - n {
-        let x = h.directs[n + i];
+        let x = directs[n + i];
         if !is_blank_direct(x) {
             return false;
         }
         i += 1;
     }
     true
-}
-
-// The entries past each count.
-pub fn rest_blank(h: Hour) -> bool
-    requires { ⌜ Few (countsOf h) ⌝ }
-    ensures { λ r. ⌜ r ≡ restBlank h ⌝ }
-{
-    if !sources_blank(h) {
-        return false;
-    }
-    if !deliveries_blank(h) {
-        return false;
-    }
-    directs_blank(h)
 }

@@ -5,15 +5,18 @@ use mathlib.Core.List.{List}
 use mathlib.Core.Logic.{⊎-elim}
 use mathlib.Core.Option.{Option, none, some}
 use Prim.Native.Nat.{ℕ, zero, suc, _+_, _<_, _≤_}
+use native.Mathlib.Decide.{decLt}
 use native.Mathlib.Nat.{eq-or-lt-of-le, le-of-suc-le-suc}
 use native.Mathlib.Numerals.{add-one}
 use native.Mathlib.Omega.{arith}
+use lib.Dec.{ltb}
 use lib.ListN.{length, getD, set}
 use lib.Seq.{getD-set-same, getD-set-other}
+use borrow.Author.Tests.{lt-ltb, le-ltb}
 use Rattle.rules.specs.Words as words
 use Rattle.rules.specs.Words.{if_then_else_, allTo, _otherwise_, findTo}
 use Rattle.laws.specs.Choices.{true-not-false}
-use Rattle.laws.specs.Lists.{findTo-passes}
+use Rattle.laws.specs.Lists.{findTo-none, findTo-passes}
 use Rattle.hour.specs.Keys.{spotOf}
 use Rattle.hour.specs.Tried.{isFound}
 
@@ -50,6 +53,14 @@ findTo-here p (suc n) i h e t =
 
 pub findTo-end : (p : ℕ → Bool) (n i : ℕ) → i ≤ n → n ≤ i → findTo p i ≡ none → findTo p n ≡ none
 findTo-end p n i a b e = let q : i ≡ n = omega arith in rw q at e
+
+-- one that alone passes is the first
+pub findTo-only : (p : ℕ → Bool) (n i : ℕ) → i < n → p i ≡ true → ((j : ℕ) → j < n → p j ≡ true → j ≡ i) → findTo p n ≡ some i
+findTo-only p n i l t one = go (findTo p n) refl
+  where
+    go : (x : Option ℕ) → findTo p n ≡ x → findTo p n ≡ some i
+    go none e = true-not-false (sym t ∙ findTo-none p n e i l)
+    go (some j) e = let f = findTo-passes p n j e in e ∙ ap some (one j (f .0) (f .1))
 
 -- the same test at each place finds the same
 pub findTo-same : (p q : ℕ → Bool) (n : ℕ) → ((i : ℕ) → i < n → p i ≡ q i) → findTo p n ≡ findTo q n
@@ -107,10 +118,28 @@ pub allTo-more : (p : ℕ → Bool) (n : ℕ) → allTo p (n + 1) ≡ (allTo p n
 unfolding words.allTo
 allTo-more p n = rw add-one
 
+-- a loop's step, without a way out
+pub allTo-next : (p : ℕ → Bool) (n : ℕ) (a b : Bool) → a ≡ allTo p n → b ≡ p n → (a && b) ≡ allTo p (n + 1)
+allTo-next p n a b e f = rw (allTo-more p n, e, f)
+
 pub allTo-same : (p q : ℕ → Bool) (n : ℕ) → ((i : ℕ) → i < n → p i ≡ q i) → allTo p n ≡ allTo q n
 unfolding words.allTo
 allTo-same p q zero h = refl
 allTo-same p q (suc n) h = rw (allTo-same p q n (λ i l. h i (omega arith)), h n (omega arith))
+
+-- those of m that are below n
+allTo-below : (p : ℕ → Bool) (n m : ℕ) → n ≤ m → allTo (λ i. not (ltb i n && p i)) m ≡ allTo (λ i. not (p i)) n
+unfolding words.allTo
+allTo-below p n zero h = let q : n ≡ 0 = omega arith in rw q
+allTo-below p n (suc m) h = elim (decLt m n) [
+  | yes l ↦ (
+      let q : n ≡ suc m = omega arith in
+      rw q (allTo-same (λ i. not (ltb i (suc m) && p i)) (λ i. not (p i)) (suc m) (λ i k. rw (lt-ltb i (suc m) k))))
+  | no l ↦ rw (le-ltb m n (omega arith)) (and-true (allTo (λ i. not (ltb i n && p i)) m) ∙ allTo-below p n m (omega arith))
+]
+
+pub found-below : (p : ℕ → Bool) (n m : ℕ) → n ≤ m → not (allTo (λ i. not (ltb i n && p i)) m) ≡ isFound (spotOf (findTo p n))
+found-below p n m h = ap not (allTo-below p n m h) ∙ found-not-all p n
 
 -- of a list with its element n set
 pub allTo-set : {B : Type 0} (f : B → Bool) (xs : List B) (d x : B) (n : ℕ) → n < length xs

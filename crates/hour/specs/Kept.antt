@@ -2,7 +2,7 @@
 use mathlib.Core.Path.{_≡_, refl, ap, sym, _∙_}
 use mathlib.Core.Bool.{Bool, not, _&&_}
 use mathlib.Core.List.{List}
-use mathlib.Core.Option.{Option, none}
+use mathlib.Core.Option.{Option, none, some}
 use Prim.Native.Nat.{ℕ, suc, _+_, _<_}
 use native.Mathlib.Decide.{decLt}
 use native.Mathlib.Numerals.{add-one}
@@ -23,7 +23,7 @@ use Rattle.laws.specs.Lists.{findTo-none}
 use Rattle.laws.specs.Sums.{below-suc}
 use Rattle.hour.specs.Keys.{keyOf, sameKey, spotOf, keyAt, keyTo, keyFound}
 use Rattle.hour.specs.Tried.{countsOf, Few, isFound, Tables, unitHigh, codeLeaves}
-use Rattle.hour.specs.Finds.{findTo-same, found-not-all, kept, findTo-both}
+use Rattle.hour.specs.Finds.{findTo-only, findTo-same, found-not-all, kept, findTo-both}
 use Rattle.hour.specs.KeyTells.{Labelled, sameKey-tells, sameKey-self, key-tells}
 use Rattle.hour.specs.declared.Key.{Key}
 
@@ -92,6 +92,12 @@ module _ (label after : ℕ → Label) (n : ℕ) (lo hi : List ℕ) (l : Label) 
             (newest ∙ ap keyOf (sym new)));
         apart = rw (add-one n) apart-more;
       }
+
+-- a key that stands in the tables is found there
+pub keyed-at : (label : ℕ → Label) (n : ℕ) (lo hi : List ℕ) → Keyed label n lo hi → (i : ℕ) → i < n → keyTo lo hi (keyAt lo hi i) n ≡ some i
+keyed-at label n lo hi k i l =
+    findTo-only (λ j. sameKey (keyAt lo hi j) (keyAt lo hi i)) n i l (sameKey-self (keyAt lo hi i))
+    (λ j m e. k .apart j i m l (sameKey-tells (keyAt lo hi j) (keyAt lo hi i) e))
 
 -- a label is found where its key is
 module _ (label : ℕ → Label) (n : ℕ) (lo hi : List ℕ) (k : Keyed label n lo hi) (l : Label) (p : Labelled l) where

@@ -19,6 +19,12 @@ use Rattle.hour.specs.declared.DirectLine.{DirectLine}
 use Rattle.hour.specs.declared.Pair.{Pair}
 use Rattle.hour.specs.declared.Pair.the-variants.{Both, Missing}
 
+-- the pair of two keys that are found
+pub pair-at : (n : Counts) (x : DirectLine) (slo shi tlo thi high : List ℕ) (i j : ℕ) → keyTo slo shi (x .unit) (n .sources) ≡ some i → keyTo tlo thi (x .delivery) (n .deliveries) ≡ some j
+    → pairFound n x slo shi tlo thi high ≡ (if eqb (getD high i 0) 0 then Missing else Both i j)
+unfolding tried.pairFound
+pair-at n x slo shi tlo thi high i j e f = rw (e, f)
+
 -- where they stand, and that the keys there are those named
 pub record Paired (n : Counts) (x : DirectLine) (slo shi tlo thi : List ℕ) (i j : ℕ) : Type 0 where
   pub source : i < n .sources

@@ -5,15 +5,18 @@ use mathlib.Core.Option.{Option}
 use Prim.Native.Nat.{ℕ, _+_, _≤_}
 use lib.Dec.{leb, ltb, eqb}
 use lib.ListN.{getD}
-use Rattle.rules.specs.Words.{if_then_else_, findTo}
+use Rattle.rules.specs.Words.{if_then_else_, sumTo, findTo}
 use Rattle.rules.specs.Refusals.{Outcome, accepted, refused, refuse, andThen}
-use Rattle.rules.specs.Units.{levelled}
-use Rattle.rules.specs.Record.{deliveryAt}
+use Rattle.rules.specs.Units.{generation, levelled}
+use Rattle.rules.specs.Sequences.{noDelivery}
+use Rattle.rules.specs.Record.{noSource}
 use Rattle.rules.specs.declared.Plant.{Plant}
 use Rattle.rules.specs.declared.Plant.the-variants.{Unit as U, Purchase as P, Fixed as F}
 use Rattle.rules.specs.declared.Basis.{Basis}
 use Rattle.rules.specs.declared.Basis.the-variants.{Low, Generation, Mwh}
 use Rattle.rules.specs.declared.InputSequence.{InputSequence}
+use Rattle.rules.specs.declared.Source.{Source}
+use Rattle.rules.specs.declared.Delivery.{Delivery}
 use Rattle.rules.specs.declared.Direct.{Direct}
 use Rattle.rules.specs.declared.Hour.{Hour}
 use Rattle.rules.specs.declared.Refusal.{Refusal}
@@ -141,13 +144,20 @@ directTried n inRange x t =
 
 -- After E.
 
--- the first delivery with a number of its own, or the first without
+-- what the first n sources generate, and what the first n deliveries take
+abbrev pub generatedTo : List Source → ℕ → ℕ
+generatedTo sources n = sumTo (λ i. generation (getD sources i noSource .plant)) n
+
+abbrev pub deliveredTo : List Delivery → ℕ → ℕ
+deliveredTo deliveries n = sumTo (λ i. getD deliveries i noDelivery .mwh) n
+
+-- the first of n deliveries with a number of its own, or the first without
 abbrev pub placedIs : Bool → InputSequence → Bool
 placedIs true s = not (eqb (s .0) 0)
 placedIs false s = eqb (s .0) 0
 
-abbrev pub placedTo : Hour → Bool → ℕ → Option ℕ
-placedTo h placed n = findTo (λ i. placedIs placed (deliveryAt h i .sequence)) n
+abbrev pub placedTo : List Delivery → Bool → ℕ → Option ℕ
+placedTo deliveries placed n = findTo (λ i. placedIs placed (getD deliveries i noDelivery .sequence)) n
 
-abbrev pub firstPlaced : Hour → Bool → Spot
-firstPlaced h placed = spotOf (placedTo h placed (h .ndeliveries))
+abbrev pub firstPlaced : List Delivery → ℕ → Bool → Spot
+firstPlaced deliveries n placed = spotOf (placedTo deliveries placed n)

@@ -7,7 +7,7 @@ ghost use lib.Dec.{eqb};
 ghost use Rattle.rules.specs.Units.{generation, ordered, levelled};
 ghost use Rattle.rules.specs.Reading.{generated, delivered, finished};
 ghost use Rattle.hour.specs.Keys.{halfOf, keyOf, sameKey, keyFound};
-ghost use Rattle.hour.specs.Tried.{verdictOf, entryOf, countsOf, Few, nextLine, labelTried, sourceTried, deliveryTried, unitHigh, basisCode, codeLeaves, belowMost, pairFound, directTried, placedIs, firstPlaced};
+ghost use Rattle.hour.specs.Tried.{verdictOf, entryOf, countsOf, Few, nextLine, labelTried, sourceTried, deliveryTried, unitHigh, basisCode, codeLeaves, belowMost, isFound, pairFound, directTried, generatedTo, deliveredTo, placedIs, firstPlaced};
 use rules::Basis;
 use rules::Delivery;
 use rules::Direct;
@@ -16,6 +16,7 @@ use rules::InputSequence;
 use rules::Label;
 use rules::Plant;
 use rules::Refusal;
+use rules::Source;
 use rules::Unit;
 
 pub enum Verdict {
@@ -130,6 +131,24 @@ pub fn find_key(lo: &[u64; 32], hi: &[u64; 32], n: usize, k: Key) -> Spot
     Spot::Nowhere
 }
 
+// Whether a key stands at one of the first n places: all 32 are looked at, without a way out.
+fn is_used(lo: &[u64; 32], hi: &[u64; 32], n: usize, k: Key) -> bool
+    requires { ⌜ n ≤ 32 ⌝ }
+    ensures { λ r. ⌜ r ≡ isFound (keyFound (now (lo .entry)) (now (hi .entry)) n k) ⌝ }
+{
+    let mut unused = true;
+    let mut i: usize = 0;
+    while i < 32 {
+        let here = Key {
+            lo: lo[i],
+            hi: hi[i],
+        };
+        unused = unused & !((i < n) & same_key(here, k));
+        i += 1;
+    }
+    !unused
+}
+
 fn in_order(u: Unit) -> bool
     ensures { λ r. ⌜ r ≡ ordered u ⌝ }
 {
@@ -184,7 +203,7 @@ fn take_label(
     if 32 <= n {
         return Verdict::Refused(Refusal::Full(line));
     }
-    if let Spot::At(i) = find_key(lo, hi, n, key) {
+    if is_used(lo, hi, n, key) {
         return Verdict::Refused(Refusal::Used(line));
     }
     Verdict::Accepted
@@ -268,7 +287,7 @@ fn code_leaves(code: u64, b: Basis) -> bool
 }
 
 // The basis of a unit's earlier D lines, or none yet, and a number below its high (8).
-fn basis_allowed(b: Basis, code: u64, most: u32) -> bool
+pub fn basis_allowed(b: Basis, code: u64, most: u32) -> bool
     ensures { λ r. ⌜ r ≡ (codeLeaves code b && belowMost b most) ⌝ }
 {
     if !code_leaves(code, b) {
@@ -353,17 +372,38 @@ fn generation_of(p: Plant) -> u32
     }
 }
 
+fn generated_by(sources: [Source; 32], n: usize) -> u64
+    requires { ⌜ n ≤ 32 ⌝ }
+    ensures { λ r. ⌜ (r ≡ generatedTo sources n) × (r ≤ 137438953472) ⌝ }
+{
+    let mut sum: u64 = 0;
+    let mut i: usize = 0;
+    while i < n {
+        let x = sources[i];
+        let p = x.plant;
+        sum = sum + wide(generation_of(p));
+        i += 1;
+    }
+    sum
+}
+
 pub fn sum_generated(h: Hour) -> u64
     requires { ⌜ h .nsources ≤ 32 ⌝ }
     ensures { λ r. ⌜ (r ≡ generated h) × (r ≤ 137438953472) ⌝ }
 {
-    let n = h.nsources;
+    let sources = h.sources;
+    generated_by(sources, h.nsources)
+}
+
+fn delivered_to(deliveries: [Delivery; 32], n: usize) -> u64
+    requires { ⌜ n ≤ 32 ⌝ }
+    ensures { λ r. ⌜ (r ≡ deliveredTo deliveries n) × (r ≤ 137438953472) ⌝ }
+{
     let mut sum: u64 = 0;
     let mut i: usize = 0;
     while i < n {
-        let x = h.sources[i];
-        let p = x.plant;
-        sum = sum + wide(generation_of(p));
+        let x = deliveries[i];
+        sum = sum + wide(x.mwh);
         i += 1;
     }
     sum
@@ -373,15 +413,8 @@ pub fn sum_delivered(h: Hour) -> u64
     requires { ⌜ h .ndeliveries ≤ 32 ⌝ }
     ensures { λ r. ⌜ (r ≡ delivered h) × (r ≤ 137438953472) ⌝ }
 {
-    let n = h.ndeliveries;
-    let mut sum: u64 = 0;
-    let mut i: usize = 0;
-    while i < n {
-        let x = h.deliveries[i];
-        sum = sum + wide(x.mwh);
-        i += 1;
-    }
-    sum
+    let deliveries = h.deliveries;
+    delivered_to(deliveries, h.ndeliveries)
 }
 
 fn placed_is(placed: bool, s: InputSequence) -> bool
@@ -393,15 +426,14 @@ fn placed_is(placed: bool, s: InputSequence) -> bool
     placed
 }
 
-// The first delivery with a number of its own, or the first without.
-fn first_placed(h: Hour, placed: bool) -> Spot
-    requires { ⌜ h .ndeliveries ≤ 32 ⌝ }
-    ensures { λ r. ⌜ r ≡ firstPlaced h placed ⌝ }
+// The first of n deliveries with a number of its own, or the first without.
+fn first_placed(deliveries: [Delivery; 32], n: usize, placed: bool) -> Spot
+    requires { ⌜ n ≤ 32 ⌝ }
+    ensures { λ r. ⌜ r ≡ firstPlaced deliveries n placed ⌝ }
 {
-    let n = h.ndeliveries;
     let mut i: usize = 0;
     while i < n {
-        let x = h.deliveries[i];
+        let x = deliveries[i];
         let s = x.sequence;
         if placed_is(placed, s) {
             return Spot::At(i);
@@ -416,13 +448,16 @@ pub fn finish(h: Hour) -> Verdict
     requires { ⌜ Few (countsOf h) ⌝ }
     ensures { λ r. ⌜ r ≡ verdictOf (finished h) ⌝ }
 {
-    if sum_generated(h) < wide(h.losses) + sum_delivered(h) {
+    let sources = h.sources;
+    let deliveries = h.deliveries;
+    let n = h.ndeliveries;
+    if generated_by(sources, h.nsources) < wide(h.losses) + delivered_to(deliveries, n) {
         return Verdict::Refused(Refusal::Overdrawn);
     }
-    let Spot::At(i) = first_placed(h, false) else {
+    let Spot::At(i) = first_placed(deliveries, n, false) else {
         return Verdict::Accepted;
     };
-    if let Spot::At(j) = first_placed(h, true) {
+    if let Spot::At(j) = first_placed(deliveries, n, true) {
         return Verdict::Accepted;
     }
     Verdict::Refused(Refusal::Unplaced(h.nsources + 2 + i))

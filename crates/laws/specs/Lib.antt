@@ -2,3 +2,4 @@ pub mod Choices
 pub mod Lists
 pub mod Sums
 pub mod Signed
+pub mod Parts

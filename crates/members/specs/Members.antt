@@ -8,9 +8,10 @@ use native.Mathlib.Omega.{arith}
 use lib.IntN.{ℤ, pos}
 use lib.ListN.{length, getD, replicate, getD-replicate}
 use Rattle.balance.specs.AnswerCells.{cellAt}
+use Rattle.laws.specs.Parts.{upTo-start, upTo-grows}
 use Rattle.laws.specs.Sums.{below-suc, sumTo-none, sumTo-same, sumTo-more, sumTo-longer, sumTo-bound}
 use Rattle.members.specs.Amounts.{taken, Amounts, amount-small, each-place}
-use Rattle.members.specs.Rows.{SizesSmall, RowFits, Row, upTo-start}
+use Rattle.members.specs.Rows.{SizesSmall, RowFits, Row}
 use Rattle.members.specs.Shared.{placeOf, place-small, DeliveriesSmall, SourceRuns, GroupGiven, SharedInto}
 use Rattle.merit.specs.LevelNeverBelowB.{stateAt}
 use Rattle.rules.specs.Group.{Amount, signed, Item, upTo}
@@ -20,7 +21,7 @@ use Rattle.rules.specs.Words.{if_then_else_, sumTo}
 use Rattle.rules.specs.declared.Hour.{Hour}
 use Rattle.rules.specs.declared.InternalSequence.{InternalSequence}
 use Rattle.rules.specs.declared.Running.{Running}
-use Rattle.shares.specs.Sharing.{upTo-grows, member-share}
+use Rattle.shares.specs.Sharing.{member-share}
 
 -- The group's MWh and members.
 

@@ -12,11 +12,11 @@ use lib.IntN.{ℤ, pos}
 use lib.ListN.{length, getD, set, length-set}
 use lib.Seq.{getD-set-same, getD-set-other}
 use Rattle.balance.specs.AnswerCells.{cellAt}
+use Rattle.laws.specs.Parts.{upTo-nothing}
 use Rattle.laws.specs.Sums.{below-suc, part-most}
 use Rattle.members.specs.Live.{reached, Listed, reached-more, reached-most}
 use Rattle.rules.specs.Group.{signed, upTo}
 use Rattle.rules.specs.Words.{if_then_else_}
-use Rattle.shares.specs.Sharing.{upTo-part, upTo-whole}
 
 abbrev pub SizesSmall : ℕ → List ℕ → Type 0
 SizesSmall width sizes = (q : ℕ) → q < width → getD sizes q 0 ≤ 100_000_000_000_000
@@ -43,42 +43,6 @@ pub record Row (at total count mwh : ℕ) (sizes : List ℕ) (minus : List Bool)
   pub inside : (q : ℕ) → q < width → cellAt ys (at + q) ≡ signed (getD minus q false) (upTo total (getD sizes q 0) count mwh - getD had q 0)
   pub before : (p : ℕ) → p < at → cellAt ys p ≡ cellAt xs p
   pub beyond : (p : ℕ) → at + width ≤ p → cellAt ys p ≡ cellAt xs p
-
--- What the members have.
-
--- of a size of 0 they have 0
-pub upTo-nothing : (x size c m : ℕ) → size ≡ 0 → 0 ≡ upTo x size c m
-unfolding upTo
-upTo-nothing x size c m e = rw e (go (eqb x 0) (eqb c 0))
-  where
-    go : (y z : Bool) → 0 ≡ (if y then (if z then 0 else 0) else 0 * m / x)
-    go true true = refl
-    go true false = refl
-    go false z = rw (zero-mul m, zero-div x)
-
--- with all of the MWh they have all
-pub upTo-all : (x size c m : ℕ) → m ≡ x → 0 < c → size ≡ upTo x size c m
-upTo-all zero size c m e h = upTo-whole 0 size c m refl (λ z. omega arith)
-upTo-all (suc x) size c m e h = omega (arith, mul-div-cancel size {n = suc x} (omega arith), ap (λ (y : ℕ). size * y / suc x) e, upTo-part (suc x) size c m (omega arith))
-
--- before the first they have 0
-pub upTo-start : (x size : ℕ) → 0 ≡ upTo x size 0 0
-unfolding upTo
-upTo-start x size = go (eqb x 0)
-  where
-    go : (y : Bool) → 0 ≡ (if y then 0 else size * 0 / x)
-    go true = refl
-    go false = rw (mul-zero size, zero-div x)
-
--- never more than all
-pub upTo-most : (x size c m : ℕ) → m ≤ x → upTo x size c m ≤ size
-unfolding upTo
-upTo-most x size c m h = go (eqb x 0) (eqb c 0)
-  where
-    go : (y z : Bool) → (if y then (if z then 0 else size) else size * m / x) ≤ size
-    go true true = omega arith
-    go true false = omega arith
-    go false z = part-most size m x h
 
 signed-nothing : (y : Bool) (n : ℕ) → n ≡ 0 → pos 0 ≡ signed y n
 signed-nothing true n e = rw e

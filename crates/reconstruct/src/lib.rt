@@ -45,7 +45,8 @@ fn open(p: Plant) -> Running
     }
 }
 
-fn open_all(sources: [Source; 32]) -> [Running; 32]
+// Every source at the hour's start.
+pub fn open_all(sources: [Source; 32]) -> [Running; 32]
     ensures { λ r. ⌜ r ≡ map (λ s. opened (s .plant)) sources ⌝ }
 {
     let blank = open(Plant::Fixed { g: 0 });

@@ -77,10 +77,10 @@ module _ (h : Hour) where
   given-lines : linesGiven h ≡ true → Given
   unfolding tests.linesGiven sourceLines deliveryLines directLines
   given-lines e =
-      let a = both-true (allTo (sourceOwnAt h) (h .nsources)) _ e in
-      let b = both-true (allTo (deliveryOwnAt h) (h .ndeliveries)) (allTo (directOwnAt h) (h .ndirects)) (a .1) in
-      let s = all-fed _ (λ i. soFar h i 0 0) (λ i. tablesTo h i 0 0) (sourceOwnAt h) (source-step h) (started-kept h) (h .nsources) (a .0) in
-      let t = all-fed _ (λ j. soFar h (h .nsources) j 0) (λ j. tablesTo h (h .nsources) j 0) (deliveryOwnAt h) (delivery-step h) (s .kept) (h .ndeliveries) (b .0) in
+      let a = both-true (allTo (sourceOwnAt (h .sources)) (h .nsources)) _ e in
+      let b = both-true (allTo (deliveryOwnAt (h .nsources) (h .deliveries)) (h .ndeliveries)) (allTo (directOwnAt h) (h .ndirects)) (a .1) in
+      let s = all-fed _ (λ i. soFar h i 0 0) (λ i. tablesTo h i 0 0) (sourceOwnAt (h .sources)) (source-step h) (started-kept h) (h .nsources) (a .0) in
+      let t = all-fed _ (λ j. soFar h (h .nsources) j 0) (λ j. tablesTo h (h .nsources) j 0) (deliveryOwnAt (h .nsources) (h .deliveries)) (delivery-step h) (s .kept) (h .ndeliveries) (b .0) in
       let d = all-fed _ (λ k. soFar h (h .nsources) (h .ndeliveries) k) (λ k. tablesTo h (h .nsources) (h .ndeliveries) k) (directOwnAt h) (direct-step h) (t .kept) (h .ndirects) (b .1) in
       record {
         fed = ap (feed (soFar h 0 0 0)) body-is ∙ feed-append (sourceLines (h .nsources)) (deliveryLines (h .ndeliveries) ++ directLines (h .ndirects)) (soFar h 0 0 0)
@@ -93,8 +93,8 @@ module _ (h : Hour) where
   whole : Few (countsOf h) → restBlank h ≡ true → soFar h (h .nsources) (h .ndeliveries) (h .ndirects) ≡ h
   unfolding shape.restBlank
   whole f e =
-      let a = both-true (sourcesRest h) _ e in
-      let b = both-true (deliveriesRest h) (directsRest h) (a .1) in
+      let a = both-true (sourcesRest (h .sources) (h .nsources)) _ e in
+      let b = both-true (deliveriesRest (h .deliveries) (h .ndeliveries)) (directsRest (h .directs) (h .ndirects)) (a .1) in
       rw (
         filled (h .sources) blankSource noSource sourceBlank blank-source (h .nsources) (f .sources) (a .0),
         filled (h .deliveries) blankDelivery noDelivery deliveryBlank blank-delivery (h .ndeliveries) (f .deliveries) (b .0),
@@ -104,7 +104,7 @@ module _ (h : Hour) where
   own-lines : own h ≡ true → OwnLines h
   unfolding tests.own reading.headed
   own-lines e =
-      let a = both-true (fewEntries h) _ e in
+      let a = both-true (fewEntries (countsOf h)) _ e in
       let b = both-true (lossesInside (h .losses)) _ (a .1) in
       let c = both-true (linesGiven h) _ (b .1) in
       let d = both-true (restBlank h) (accepts (verdictOf (finished h))) (c .1) in
@@ -112,7 +112,7 @@ module _ (h : Hour) where
       let f = accepts-hour (finished h) (d .1) in
       record {
         head = rw (losses-inside (h .losses, tt), b .0);
-        fed = ap (λ (m : Hour). feed m (body h)) (started-is h) ∙ g .fed ∙ ap accepted (whole (few-from h (a .0)) (d .0));
+        fed = ap (λ (m : Hour). feed m (body h)) (started-is h) ∙ g .fed ∙ ap accepted (whole (few-from (countsOf h) (a .0)) (d .0));
         done = f .1 ∙ ap accepted (sym (finished-passed h (f .0) (f .1) .same));
         labels = g .labels;
       }
@@ -127,10 +127,10 @@ module _ (h : Hour) where
       let b = both-true (allLabelled (deliveryLines (h .ndeliveries))) (allLabelled (directLines (h .ndirects))) (sym (labels-append (deliveryLines (h .ndeliveries)) (directLines (h .ndirects))) ∙ a .1) in
       let few = f .sources in
       let few′ = f .deliveries in
-      let s = fed-all _ (λ i. soFar h i 0 0) (λ i. tablesTo h i 0 0) (sourceOwnAt h) (source-step h) (started-kept h) h (h .nsources)
+      let s = fed-all _ (λ i. soFar h i 0 0) (λ i. tablesTo h i 0 0) (sourceOwnAt (h .sources)) (source-step h) (started-kept h) h (h .nsources)
       (λ i l k. source-back h i k (omega arith)) (h .nsources) (omega arith) (deliveryLines (h .ndeliveries) ++ directLines (h .ndirects)) (a .0)
       (ap (feed (soFar h 0 0 0)) (sym body-is) ∙ ap (λ (m : Hour). feed m (body h)) (sym (started-is h)) ∙ o .fed) in
-      let t = fed-all _ (λ j. soFar h (h .nsources) j 0) (λ j. tablesTo h (h .nsources) j 0) (deliveryOwnAt h) (delivery-step h) (s .kept) h (h .ndeliveries)
+      let t = fed-all _ (λ j. soFar h (h .nsources) j 0) (λ j. tablesTo h (h .nsources) j 0) (deliveryOwnAt (h .nsources) (h .deliveries)) (delivery-step h) (s .kept) h (h .ndeliveries)
       (λ j l k. delivery-back h j k (omega arith)) (h .ndeliveries) (omega arith) (directLines (h .ndirects)) (b .0) (s .rest) in
       let d = fed-all _ (λ k. soFar h (h .nsources) (h .ndeliveries) k) (λ k. tablesTo h (h .nsources) (h .ndeliveries) k) (directOwnAt h) (direct-step h) (t .kept) h (h .ndirects)
       (λ i l k lb mid more e f. direct-back h i k (g .directs .entry i l .source) (g .directs .entry i l .delivery) mid e) (h .ndirects) (omega arith) [] (b .1)
@@ -155,7 +155,7 @@ module _ (h : Hour) where
   lines-pass o =
       let g = own-entries h o in
       let f : Few (countsOf h) = record { sources = g .sources .few; deliveries = g .deliveries .few; directs = g .directs .few } in
-      rw (few-to h f, sym (losses-inside (h .losses, tt)) ∙ head-passed h (started (h .losses)) (o .head) .0, lines-own o f, blank-own o, o .done)
+      rw (few-to (countsOf h) f, sym (losses-inside (h .losses, tt)) ∙ head-passed h (started (h .losses)) (o .head) .0, lines-own o f, blank-own o, o .done)
 
 pub own-is-valid : (h : Hour) → own h ≡ valid h
 own-is-valid h = truths-same (own h) (valid h) (λ e. own-valid h (own-lines h e)) (λ e. lines-pass h (valid-own h e))

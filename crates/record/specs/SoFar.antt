@@ -1,14 +1,16 @@
 -- The hour that a record's first entries make, and its tables: an entry that passes makes the next, and one that was fed passes.
 use mathlib.Core.Path.{_≡_, refl, ap, sym, subst, _∙_}
-use mathlib.Core.Bool.{Bool, true, _&&_}
+use mathlib.Core.Bool.{Bool, true, false, not, _&&_}
 use mathlib.Core.List.{List}
-use Prim.Native.Nat.{ℕ, suc, _<_}
+use Prim.Native.Nat.{ℕ, suc, _+_, _<_}
 use native.Mathlib.Numerals.{add-one}
 use native.Mathlib.Omega.{arith}
-use lib.ListN.{replicate, length-replicate}
+use lib.Dec.{leb, ltb, eqb}
+use lib.ListN.{getD, replicate, length-replicate}
 use lib.Seq.{getD-set-same}
 use borrow.Author.Tests.{lt-ltb}
-use Rattle.rules.specs.Refusals.{Outcome, accepted, refused, andThen}
+use Rattle.rules.specs.Words.{if_then_else_}
+use Rattle.rules.specs.Refusals.{Outcome, accepted, refused, refuse, andThen}
 use Rattle.rules.specs.Fields.{isLabel}
 use Rattle.rules.specs.Lines as lines
 use Rattle.rules.specs.Lines.{Line}
@@ -24,20 +26,27 @@ use Rattle.rules.specs.declared.Source.{Source}
 use Rattle.rules.specs.declared.Delivery.{Delivery}
 use Rattle.rules.specs.declared.Direct.{Direct}
 use Rattle.rules.specs.declared.Hour.{Hour}
+use Rattle.rules.specs.declared.Refusal.{Refusal}
+use Rattle.rules.specs.declared.Refusal.the-variants.{Range, Full, Names, OtherBasis, Percents}
 use Rattle.laws.specs.Choices.{false-not-true, both-true, refused-not-accepted, accepted-same, then-passed}
 use Rattle.roundtrip.specs.Lines.{lineLabelled}
 use Rattle.ranges.specs.Inside as inside
 use Rattle.ranges.specs.Inside.{plantInside, deliveryInside, directInside}
-use Rattle.hour.specs.Keys.{keyOf}
-use Rattle.hour.specs.Tried.{verdictOf, sourceTried, deliveryTried, Tables, directTried}
+use Rattle.hour.specs.Keys.{keyOf, keyAt}
+use Rattle.hour.specs.Tried as tried
+use Rattle.hour.specs.Tried.{verdictOf, nextLine, sourceTried, deliveryTried, Tables, belowMost, codeLeaves, onPair, directTried}
 use Rattle.hour.specs.KeyTells.{Labelled, labelled}
-use Rattle.hour.specs.Kept.{Kept}
+use Rattle.hour.specs.Kept.{keyed-at, Kept}
+use Rattle.hour.specs.Pairs.{pair-at}
 use Rattle.hour.specs.TriedIsTaken.{source-tried, delivery-tried, direct-tried}
-use Rattle.hour.specs.TablesKept.{kept-started, kept-source, kept-delivery, kept-direct, direct-let}
+use Rattle.hour.specs.TablesKept.{kept-started, kept-source, kept-delivery, kept-direct}
+use Rattle.hour.specs.declared.Counts.{Counts}
+use Rattle.hour.specs.declared.DirectLine.{DirectLine}
+use Rattle.hour.specs.declared.Pair.the-variants.{Both, Missing}
 use Rattle.entries.specs.Shape.{ownLabel}
 use Rattle.entries.specs.ShapeTells.{own-labelled, labelled-own}
 use Rattle.record.specs.Own as own
-use Rattle.record.specs.Own.{accepts, fillTo, tablesTo, counts, slosTo, shisTo, tlosTo, thisTo, sourceOwnAt, deliveryOwnAt, ownLineIn, directOwn, directOwnAt}
+use Rattle.record.specs.Own.{accepts, fillTo, tablesTo, counts, slosTo, shisTo, tlosTo, thisTo, sourceOwnAt, deliveryOwnAt, directOwnAt}
 use Rattle.record.specs.Fill.{fillTo-made}
 use Rattle.record.specs.Steps.{direct-own}
 use Rattle.record.specs.Turns.{Extends, fed-extends, Step}
@@ -97,7 +106,7 @@ plant-labelled (F g) l = refl
 
 module _ (h : Hour) (i : ℕ) (k : Kept (soFar h i 0 0) (tablesTo h i 0 0)) where
   abbrev source-tried-as : Label → Outcome (Unit {0})
-  source-tried-as l = sourceTried (counts i 0 0) (plantInside (sourceAt h i .plant)) (sourceAt h i .plant) (keyOf l) (slosTo h i) (shisTo h i)
+  source-tried-as l = sourceTried (counts i 0 0) (plantInside (sourceAt h i .plant)) (sourceAt h i .plant) (keyOf l) (slosTo (h .sources) i) (shisTo (h .sources) i)
 
   abbrev source-as : Label → Source
   source-as l = record { plant = sourceAt h i .plant; label = l }
@@ -113,7 +122,7 @@ module _ (h : Hour) (i : ℕ) (k : Kept (soFar h i 0 0) (tablesTo h i 0 0)) wher
   unfolding own.fillTo
   source-next = rw (add-one i)
 
-  pub source-step : sourceOwnAt h i ≡ true → Step (λ i. sourceLine (sourceAt h i)) (λ i. soFar h i 0 0) (λ i. tablesTo h i 0 0) i
+  pub source-step : sourceOwnAt (h .sources) i ≡ true → Step (λ i. sourceLine (sourceAt h i)) (λ i. soFar h i 0 0) (λ i. tablesTo h i 0 0) i
   unfolding own.sourceOwn own.fillTo
   source-step e =
       let b = both-true (ownLabel (sourceAt h i .label)) _ e in
@@ -127,7 +136,7 @@ module _ (h : Hour) (i : ℕ) (k : Kept (soFar h i 0 0) (tablesTo h i 0 0)) wher
       }
 
   pub source-back : i < 32 → lineLabelled (sourceLine (sourceAt h i)) ≡ true → (mid : Hour) (more : List Line) → taken (soFar h i 0 0) (sourceLine (sourceAt h i)) ≡ accepted mid
-      → feed mid more ≡ accepted h → sourceOwnAt h i ≡ true
+      → feed mid more ≡ accepted h → sourceOwnAt (h .sources) i ≡ true
   unfolding own.sourceOwn
   source-back lt lb mid more e f =
       let l = sourceAt h i .label in
@@ -157,7 +166,7 @@ module _ (h : Hour) (j : ℕ) (k : Kept (soFar h (h .nsources) j 0) (tablesTo h 
   inRange = deliveryInside (deliveryAt h j .sequence .0) (deliveryAt h j .kind) (deliveryAt h j .block) (deliveryAt h j .mwh)
 
   abbrev delivery-tried-as : Label → Outcome (Unit {0})
-  delivery-tried-as l = deliveryTried (counts (h .nsources) j 0) inRange (keyOf l) (tlosTo h j) (thisTo h j)
+  delivery-tried-as l = deliveryTried (counts (h .nsources) j 0) inRange (keyOf l) (tlosTo (h .deliveries) j) (thisTo (h .deliveries) j)
 
   abbrev delivery-as : Label → Delivery
   delivery-as l = record { sequence = deliveryAt h j .sequence; kind = deliveryAt h j .kind; block = deliveryAt h j .block; mwh = deliveryAt h j .mwh; label = l }
@@ -172,7 +181,7 @@ module _ (h : Hour) (j : ℕ) (k : Kept (soFar h (h .nsources) j 0) (tablesTo h 
   unfolding own.fillTo
   delivery-next = rw (add-one j)
 
-  pub delivery-step : deliveryOwnAt h j ≡ true
+  pub delivery-step : deliveryOwnAt (h .nsources) (h .deliveries) j ≡ true
       → Step (λ j. deliveryLine (deliveryAt h j)) (λ j. soFar h (h .nsources) j 0) (λ j. tablesTo h (h .nsources) j 0) j
   unfolding own.deliveryOwn own.fillTo
   delivery-step e =
@@ -187,7 +196,7 @@ module _ (h : Hour) (j : ℕ) (k : Kept (soFar h (h .nsources) j 0) (tablesTo h 
       }
 
   pub delivery-back : j < 32 → lineLabelled (deliveryLine (deliveryAt h j)) ≡ true → (mid : Hour) (more : List Line) → taken so (deliveryLine (deliveryAt h j)) ≡ accepted mid
-      → feed mid more ≡ accepted h → deliveryOwnAt h j ≡ true
+      → feed mid more ≡ accepted h → deliveryOwnAt (h .nsources) (h .deliveries) j ≡ true
   unfolding own.deliveryOwn
   delivery-back lt lb mid more e f =
       let l = deliveryAt h j .label in
@@ -209,12 +218,38 @@ direct-labelled : (h : Hour) (x : Direct) → lineLabelled (directLine h x) ≡ 
 unfolding lines.labelled
 direct-labelled h x = refl
 
-same-direct : (x y : Direct) → y .basis ≡ x .basis → y .percent ≡ x .percent → y .source ≡ x .source → y .delivery ≡ x .delivery → y ≡ x
-same-direct x y b p s d = rw (b, p, s, d)
+pair-if : (b : Bool) (i j : ℕ) (r : Refusal) (after : ℕ → ℕ → Outcome Direct) → onPair (if b then Missing else Both i j) r after ≡ (if b then refused r else after i j)
+pair-if true i j r after = refl
+pair-if false i j r after = refl
+
+-- 3, 4 and 7 to 9 of an entry, by their tests in turn
+module _ (line : ℕ) (x : Direct) where
+  abbrev ruled : Bool → Bool → Bool → Bool → Bool → Outcome Direct
+  ruled inRange full none allowed over =
+      refuse (not inRange) (Range line) (refuse full (Full line) (if none then refused (Names line) else refuse (not allowed) (OtherBasis line) (refuse over (Percents line) (accepted x))))
+
+  ruled-goes : (inRange full none allowed over : Bool) → (inRange && (not full && (not none && (allowed && not over)))) ≡ true → ruled inRange full none allowed over ≡ accepted x
+  ruled-goes false b c d f e = false-not-true e
+  ruled-goes true true c d f e = false-not-true e
+  ruled-goes true false true d f e = false-not-true e
+  ruled-goes true false false false f e = false-not-true e
+  ruled-goes true false false true true e = false-not-true e
+  ruled-goes true false false true false e = refl
+
+  ruled-back : (inRange full none allowed over : Bool) (y : Direct) → ruled inRange full none allowed over ≡ accepted y → (inRange && (not full && (not none && (allowed && not over)))) ≡ true
+  ruled-back false b c d f y e = refused-not-accepted _ y e
+  ruled-back true true c d f y e = refused-not-accepted _ y e
+  ruled-back true false true d f y e = refused-not-accepted _ y e
+  ruled-back true false false false f y e = refused-not-accepted _ y e
+  ruled-back true false false true true y e = refused-not-accepted _ y e
+  ruled-back true false false true false y e = refl
 
 module _ (h : Hour) (d : ℕ) (k : Kept (soFar h (h .nsources) (h .ndeliveries) d) (tablesTo h (h .nsources) (h .ndeliveries) d)) where
   abbrev hour : Hour
   hour = soFar h (h .nsources) (h .ndeliveries) d
+
+  abbrev counted : Counts
+  counted = counts (h .nsources) (h .ndeliveries) d
 
   abbrev tables : Tables
   tables = tablesTo h (h .nsources) (h .ndeliveries) d
@@ -222,8 +257,31 @@ module _ (h : Hour) (d : ℕ) (k : Kept (soFar h (h .nsources) (h .ndeliveries) 
   abbrev entry : Direct
   entry = directAt h d
 
+  -- its line, by the keys of the entries that it names
+  abbrev ownLine : DirectLine
+  ownLine =
+      record {
+        basis = entry .basis;
+        percent = entry .percent;
+        unit = keyAt (tables .slo) (tables .shi) (entry .source);
+        delivery = keyAt (tables .tlo) (tables .thi) (entry .delivery);
+      }
+
+  -- its tests: in its ranges, no unit, its basis, its percents
+  abbrev within : Bool
+  within = directInside (entry .basis) (entry .percent)
+
+  abbrev missing : Bool
+  missing = eqb (getD (tables .high) (entry .source) 0) 0
+
+  abbrev allowed : Bool
+  allowed = codeLeaves (getD (tables .based) (entry .source) 0) (entry .basis) && belowMost (entry .basis) (getD (tables .high) (entry .source) 0)
+
+  abbrev over : Bool
+  over = ltb 100 (getD (tables .percents) (entry .source) 0 + entry .percent)
+
   direct-tried-as : Outcome Direct
-  direct-tried-as = directTried (counts (h .nsources) (h .ndeliveries) d) (directInside (entry .basis) (entry .percent)) (ownLineIn entry tables) tables
+  direct-tried-as = directTried counted within ownLine tables
 
   -- the entries that it names stand in the hour so far
   module _ (source : entry .source < h .nsources) (delivery : entry .delivery < h .ndeliveries) where
@@ -243,28 +301,31 @@ module _ (h : Hour) (d : ℕ) (k : Kept (soFar h (h .nsources) (h .ndeliveries) 
     unfolding direct-tried-as
     direct-goes =
         direct-taken hour h entry
-        ∙ ap (λ (l : Label). directTaken hour (directInside (entry .basis) (entry .percent)) (entry .basis) (entry .percent) l (labelOf (chars (deliveryAt h (entry .delivery) .label)))) (unit-labelled .padded)
-        ∙ ap (λ (l : Label). directTaken hour (directInside (entry .basis) (entry .percent)) (entry .basis) (entry .percent) (sourceAt h (entry .source) .label) l) (delivery-labelled-at .padded)
-        ∙ direct-tried hour tables k (directInside (entry .basis) (entry .percent)) (entry .basis) (entry .percent) (sourceAt h (entry .source) .label) (deliveryAt h (entry .delivery) .label)
-        (ownLineIn entry tables) unit-labelled delivery-labelled-at
+        ∙ ap (λ (l : Label). directTaken hour within (entry .basis) (entry .percent) l (labelOf (chars (deliveryAt h (entry .delivery) .label)))) (unit-labelled .padded)
+        ∙ ap (λ (l : Label). directTaken hour within (entry .basis) (entry .percent) (sourceAt h (entry .source) .label) l) (delivery-labelled-at .padded)
+        ∙ direct-tried hour tables k within (entry .basis) (entry .percent) (sourceAt h (entry .source) .label) (deliveryAt h (entry .delivery) .label)
+        ownLine unit-labelled delivery-labelled-at
         (k .sources .key (entry .source) source ∙ ap (λ (x : Source). keyOf (x .label)) unit-same)
         (k .deliveries .key (entry .delivery) delivery ∙ ap (λ (x : Delivery). keyOf (x .label)) delivery-same)
         (λ e. (refl, refl))
 
-    -- the entry found is itself
-    direct-self : (y : Direct) → direct-tried-as ≡ accepted y → y ≡ entry
-    unfolding direct-tried-as
-    direct-self y e =
-        let s = direct-let (counts (h .nsources) (h .ndeliveries) d) (directInside (entry .basis) (entry .percent)) (ownLineIn entry tables) tables y e in
-        same-direct entry y (s .basis) (s .percent)
-        (k .sources .apart (y .source) (entry .source) (s .source) source (s .unit-key))
-        (k .deliveries .apart (y .delivery) (entry .delivery) (s .delivery) delivery (s .delivery-key))
+    -- the entries found are those that it names
+    direct-ruled : direct-tried-as
+        ≡ ruled (nextLine counted) entry within (leb 32 d) missing allowed over
+    unfolding direct-tried-as tried.directTried
+    direct-ruled =
+        rw (pair-at counted ownLine (tables .slo) (tables .shi) (tables .tlo) (tables .thi) (tables .high) (entry .source) (entry .delivery)
+        (keyed-at _ _ (tables .slo) (tables .shi) (k .sources) (entry .source) source)
+        (keyed-at _ _ (tables .tlo) (tables .thi) (k .deliveries) (entry .delivery) delivery))
+        (ap (λ (o : Outcome Direct). refuse (not within) (Range (nextLine counted)) (refuse (leb 32 d) (Full (nextLine counted)) o))
+        (pair-if missing (entry .source) (entry .delivery) (Names (nextLine counted)) _))
 
     pub direct-back : (mid : Hour) → taken hour (directLine h entry) ≡ accepted mid → directOwnAt h d ≡ true
     unfolding own.directOwn direct-tried-as
     direct-back mid e =
         let a = then-passed direct-tried-as (λ y. accepted (withDirect hour y)) mid (sym direct-goes ∙ e) in
-        rw (lt-ltb (entry .source) (h .nsources) source, lt-ltb (entry .delivery) (h .ndeliveries) delivery, a .first)
+        rw (lt-ltb (entry .source) (h .nsources) source, lt-ltb (entry .delivery) (h .ndeliveries) delivery)
+        (ruled-back (nextLine counted) entry within (leb 32 d) missing allowed over (a .mid) (sym direct-ruled ∙ a .first))
 
   direct-next : withDirect hour entry ≡ soFar h (h .nsources) (h .ndeliveries) (suc d)
   unfolding own.fillTo
@@ -274,12 +335,11 @@ module _ (h : Hour) (d : ℕ) (k : Kept (soFar h (h .nsources) (h .ndeliveries) 
       → Step (λ d. directLine h (directAt h d)) (λ d. soFar h (h .nsources) (h .ndeliveries) d) (λ d. tablesTo h (h .nsources) (h .ndeliveries) d) d
   unfolding own.basedTo own.percentsTo direct-tried-as
   direct-step e =
-      let o = direct-own (counts (h .nsources) (h .ndeliveries) d) entry tables e in
-      let self = direct-self (o .source) (o .delivery) (o .entry) (o .tried) in
-      let t : direct-tried-as ≡ accepted entry = o .tried ∙ ap accepted self in
+      let o = direct-own counted entry (tables .high) (tables .based) (tables .percents) e in
+      let t : direct-tried-as ≡ accepted entry = direct-ruled (o .source) (o .delivery) ∙ ruled-goes (nextLine counted) entry within (leb 32 d) missing allowed over (o .ruled) in
       record {
         labels = direct-labelled h entry ∙ rw (unit-labelled (o .source) (o .delivery) .label, delivery-labelled-at (o .source) (o .delivery) .label);
         goes = direct-goes (o .source) (o .delivery) ∙ rw t (ap accepted direct-next);
         kept = subst (λ (m : Hour). Kept m (tablesTo h (h .nsources) (h .ndeliveries) (suc d))) direct-next
-            (kept-direct hour tables k (directInside (entry .basis) (entry .percent)) (ownLineIn entry tables) entry t);
+            (kept-direct hour tables k within ownLine entry t);
       }

@@ -4,11 +4,9 @@ ghost use mathlib.Core.Path.{_≡_};
 ghost use Prim.Native.Nat.{_≤_, _<_};
 ghost use Rattle.rules.specs.Words.{allTo};
 ghost use Rattle.rules.specs.Writing as writing;
-ghost use Rattle.hour.specs.Tried.{Few, countsOf};
-ghost use Rattle.record.specs.Own.{counts, sourceOwn, deliveryOwn, ownLine, directOwn, directOwnIn, noSources, noDeliveries, sourcesGiven, deliveriesGiven, linesGiven, fewEntries};
+ghost use Rattle.hour.specs.Tried.{Few};
+ghost use Rattle.record.specs.Own.{sourceOwn, deliveryOwn, deliveryOwnAt, directOwn, directOwnIn, noSources, sourcesGiven, fewEntries};
 use hour::Counts;
-use hour::DirectLine;
-use hour::Entry;
 use hour::Key;
 use hour::Verdict;
 use rules::Delivery;
@@ -16,19 +14,16 @@ use rules::Direct;
 use rules::Hour;
 use rules::Source;
 
-// Whether every source was let through, and the tables that they make.
-pub struct SourceTables {
+// Whether every source was let through, and the units' highs.
+pub struct SourceHighs {
     pub given: bool,
-    pub lo: [u64; 32],
-    pub hi: [u64; 32],
     pub high: [u32; 32],
 }
 
-// The same of the deliveries.
-pub struct DeliveryTables {
-    pub given: bool,
-    pub lo: [u64; 32],
-    pub hi: [u64; 32],
+fn wide(x: u32) -> u64
+    ensures { λ r. ⌜ (r ≡ x) × (r < 4294967296) ⌝ }
+{
+    x as u64
 }
 
 // A source after i others.
@@ -52,28 +47,25 @@ fn source_given(i: usize, x: Source, key: Key, lo: &[u64; 32], hi: &[u64; 32]) -
     true
 }
 
-fn no_sources() -> SourceTables
+fn no_sources() -> SourceHighs
     ensures { λ r. ⌜ r ≡ noSources ⌝ }
 {
-    SourceTables {
+    SourceHighs {
         given: false,
-        lo: [0u64; 32],
-        hi: [0u64; 32],
         high: [0u32; 32],
     }
 }
 
-fn sources_given(h: Hour) -> SourceTables
-    requires { ⌜ h .nsources ≤ 32 ⌝ }
-    ensures { λ r. ⌜ r ≡ sourcesGiven h ⌝ }
+fn sources_given(sources: [Source; 32], n: usize) -> SourceHighs
+    requires { ⌜ n ≤ 32 ⌝ }
+    ensures { λ r. ⌜ r ≡ sourcesGiven sources n ⌝ }
 {
-    let n = h.nsources;
     let mut lo = [0u64; 32];
     let mut hi = [0u64; 32];
     let mut high = [0u32; 32];
     let mut i: usize = 0;
     while i < n {
-        let x = h.sources[i];
+        let x = sources[i];
         let l = x.label;
         let k = hour::key_of(l);
         if !source_given(i, x, k, &lo, &hi) {
@@ -85,12 +77,7 @@ fn sources_given(h: Hour) -> SourceTables
         high[i] = hour::unit_high(p);
         i += 1;
     }
-    SourceTables {
-        given: true,
-        lo,
-        hi,
-        high,
-    }
+    SourceHighs { given: true, high }
 }
 
 // A delivery after n sources and j others.
@@ -115,86 +102,38 @@ fn delivery_given(n: usize, j: usize, x: Delivery, key: Key, lo: &[u64; 32], hi:
     true
 }
 
-fn no_deliveries() -> DeliveryTables
-    ensures { λ r. ⌜ r ≡ noDeliveries ⌝ }
+// The first m deliveries, after n sources.
+fn deliveries_given(deliveries: [Delivery; 32], n: usize, m: usize) -> bool
+    requires { ⌜ (n ≤ 32) × (m ≤ 32) ⌝ }
+    ensures { λ r. ⌜ r ≡ allTo (deliveryOwnAt n deliveries) m ⌝ }
 {
-    DeliveryTables {
-        given: false,
-        lo: [0u64; 32],
-        hi: [0u64; 32],
-    }
-}
-
-fn deliveries_given(h: Hour) -> DeliveryTables
-    requires { ⌜ (h .nsources ≤ 32) × (h .ndeliveries ≤ 32) ⌝ }
-    ensures { λ r. ⌜ r ≡ deliveriesGiven h ⌝ }
-{
-    let n = h.ndeliveries;
-    let sources = h.nsources;
     let mut lo = [0u64; 32];
     let mut hi = [0u64; 32];
     let mut i: usize = 0;
-    while i < n {
-        let x = h.deliveries[i];
+    while i < m {
+        let x = deliveries[i];
         let l = x.label;
         let k = hour::key_of(l);
-        if !delivery_given(sources, i, x, k, &lo, &hi) {
-            return no_deliveries();
+        if !delivery_given(n, i, x, k, &lo, &hi) {
+            return false;
         }
         lo[i] = k.lo;
         hi[i] = k.hi;
         i += 1;
     }
-    DeliveryTables {
-        given: true,
-        lo,
-        hi,
-    }
+    true
 }
 
-// The line of a D entry, by the keys of the entries that it names.
-fn own_line(
-    x: Direct,
-    slo: &[u64; 32],
-    shi: &[u64; 32],
-    tlo: &[u64; 32],
-    thi: &[u64; 32],
-) -> DirectLine
-    requires { ⌜ (x .source < 32) × (x .delivery < 32) ⌝ }
-    ensures { λ r. ⌜ r ≡ ownLine x (now (slo .entry)) (now (shi .entry)) (now (tlo .entry)) (now (thi .entry)) ⌝ }
-{
-    let s = x.source;
-    let d = x.delivery;
-    let unit = Key {
-        lo: slo[s],
-        hi: shi[s],
-    };
-    let delivery = Key {
-        lo: tlo[d],
-        hi: thi[d],
-    };
-    let basis = x.basis;
-    DirectLine {
-        basis,
-        percent: x.percent,
-        unit,
-        delivery,
-    }
-}
-
+// A D entry after n others: no two labels are the same, so its line names what stands at its places.
 fn direct_given(
     n: Counts,
     x: Direct,
-    slo: &[u64; 32],
-    shi: &[u64; 32],
-    tlo: &[u64; 32],
-    thi: &[u64; 32],
     high: &[u32; 32],
     based: &[u64; 32],
     percents: &[u32; 32],
 ) -> bool
     requires { ⌜ Few n ⌝ }
-    ensures { λ r. ⌜ r ≡ directOwn n x (record { slo = now (slo .entry); shi = now (shi .entry); tlo = now (tlo .entry); thi = now (thi .entry); high = now (high .entry); based = now (based .entry); percents = now (percents .entry) }) ⌝ }
+    ensures { λ r. ⌜ r ≡ directOwn n x (now (high .entry)) (now (based .entry)) (now (percents .entry)) ⌝ }
 {
     if n.sources <= x.source {
         return false;
@@ -202,49 +141,39 @@ fn direct_given(
     if n.deliveries <= x.delivery {
         return false;
     }
-    let line = own_line(x, slo, shi, tlo, thi);
     let b = x.basis;
-    let ranged = ranges::direct_in_range(b, x.percent);
-    let Entry::Named(y) = hour::take_direct(
-        n,
-        ranged,
-        line,
-        slo,
-        shi,
-        tlo,
-        thi,
-        high,
-        based,
-        percents,
-    ) else {
+    if !ranges::direct_in_range(b, x.percent) {
         return false;
-    };
-    true
+    }
+    if 32 <= n.directs {
+        return false;
+    }
+    let s = x.source;
+    if high[s] == 0 {
+        return false;
+    }
+    if !hour::basis_allowed(b, based[s], high[s]) {
+        return false;
+    }
+    wide(percents[s]) + wide(x.percent) <= 100
 }
 
-fn directs_given(
-    h: Hour,
-    slo: &[u64; 32],
-    shi: &[u64; 32],
-    tlo: &[u64; 32],
-    thi: &[u64; 32],
-    high: &[u32; 32],
-) -> bool
-    requires { ⌜ Few (countsOf h) ⌝ }
-    ensures { λ r. ⌜ r ≡ allTo (directOwnIn h (now (slo .entry)) (now (shi .entry)) (now (tlo .entry)) (now (thi .entry)) (now (high .entry))) (h .ndirects) ⌝ }
+fn directs_given(directs: [Direct; 32], n: Counts, high: &[u32; 32]) -> bool
+    requires { ⌜ Few n ⌝ }
+    ensures { λ r. ⌜ r ≡ allTo (directOwnIn (n .sources) (n .deliveries) directs (now (high .entry))) (n .directs) ⌝ }
 {
-    let n = h.ndirects;
+    let m = n.directs;
     let mut based = [0u64; 32];
     let mut percents = [0u32; 32];
     let mut i: usize = 0;
-    while i < n {
-        let x = h.directs[i];
+    while i < m {
+        let x = directs[i];
         let c = Counts {
-            sources: h.nsources,
-            deliveries: h.ndeliveries,
+            sources: n.sources,
+            deliveries: n.deliveries,
             directs: i,
         };
-        if !direct_given(c, x, slo, shi, tlo, thi, high, &based, &percents) {
+        if !direct_given(c, x, high, &based, &percents) {
             return false;
         }
         let b = x.basis;
@@ -256,53 +185,54 @@ fn directs_given(
     true
 }
 
-// The record's own entries in turn.
-fn lines_given(h: Hour) -> bool
-    requires { ⌜ Few (countsOf h) ⌝ }
-    ensures { λ r. ⌜ r ≡ linesGiven h ⌝ }
+fn few_entries(n: Counts) -> bool
+    ensures { λ r. ⌜ r ≡ fewEntries n ⌝ }
 {
-    let s = sources_given(h);
-    if !s.given {
+    if 32 < n.sources {
         return false;
     }
-    let t = deliveries_given(h);
-    if !t.given {
+    if 32 < n.deliveries {
         return false;
     }
-    let slo = s.lo;
-    let shi = s.hi;
-    let high = s.high;
-    let tlo = t.lo;
-    let thi = t.hi;
-    directs_given(h, &slo, &shi, &tlo, &thi, &high)
-}
-
-fn few_entries(h: Hour) -> bool
-    ensures { λ r. ⌜ r ≡ fewEntries h ⌝ }
-{
-    if 32 < h.nsources {
-        return false;
-    }
-    if 32 < h.ndeliveries {
-        return false;
-    }
-    h.ndirects <= 32
+    n.directs <= 32
 }
 
 // Whether some deck gives the record (15).
 pub fn valid(h: Hour) -> bool
     ensures { λ r. ⌜ r ≡ writing.valid h ⌝ }
 {
-    if !few_entries(h) {
+    let n = Counts {
+        sources: h.nsources,
+        deliveries: h.ndeliveries,
+        directs: h.ndirects,
+    };
+    if !few_entries(n) {
         return false;
     }
     if !ranges::losses_in_range(h.losses) {
         return false;
     }
-    if !lines_given(h) {
+    let sources = h.sources;
+    let deliveries = h.deliveries;
+    let directs = h.directs;
+    let s = sources_given(sources, n.sources);
+    if !s.given {
         return false;
     }
-    if !entries::rest_blank(h) {
+    if !deliveries_given(deliveries, n.sources, n.deliveries) {
+        return false;
+    }
+    let high = s.high;
+    if !directs_given(directs, n, &high) {
+        return false;
+    }
+    if !entries::sources_blank(sources, n.sources) {
+        return false;
+    }
+    if !entries::deliveries_blank(deliveries, n.deliveries) {
+        return false;
+    }
+    if !entries::directs_blank(directs, n.directs) {
         return false;
     }
     let Verdict::Accepted = hour::finish(h) else {

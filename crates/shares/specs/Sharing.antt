@@ -1,50 +1,20 @@
 -- A member's share in the words of running sums: what the members have with it less what they had before it.
-use mathlib.Core.Bool.{Bool, true, false}
+use mathlib.Core.Bool.{true}
 use mathlib.Core.List.{List}
 use mathlib.Core.Path.{_≡_, _∙_}
-use Prim.Native.Nat.{ℕ, zero, suc, _^_, _+_, _-_, _*_, _/_, _≤_, _<_}
-use native.Mathlib.Nat.{mul-le-mul-left}
+use Prim.Native.Nat.{ℕ, zero, suc, _^_, _+_, _-_, _<_}
 use native.Mathlib.Omega.{arith}
-use borrow.Author.Tests.{ne-eqb}
-use lib.Dec.{eqb}
 use lib.IntN.{pos, negℤ, _-ℤ_, +ℤ-idl}
 use lib.ListN.{getD}
 use mir.Facts.{toZ-pos, toZ-ofZ, sfits-lit}
 use mir.Syntax.{w64}
 use mir.Val.{SFits, toZ, ofZ}
-use Rattle.laws.specs.Sums.{div-grows}
 use Rattle.rules.specs.Group.{Amount, signed, upTo}
 use Rattle.rules.specs.Hour.{member, scheduled, counted, share}
 use Rattle.rules.specs.Sequences.{noDelivery}
 use Rattle.rules.specs.Words.{if_then_else_, sumTo}
 use Rattle.rules.specs.declared.Hour.{Hour}
 use Rattle.rules.specs.declared.InternalSequence.{InternalSequence}
-
-module _ (x size c m : ℕ) where
-  pub upTo-part : 0 < x → size * m / x ≡ upTo x size c m
-  unfolding upTo
-  upTo-part h = rw (ne-eqb x 0 (λ e. omega arith))
-
-  pub upTo-none : x ≡ 0 → c ≡ 0 → 0 ≡ upTo x size c m
-  unfolding upTo
-  upTo-none h z = rw (h, z)
-
-  pub upTo-whole : x ≡ 0 → (c ≡ 0 → ⊥) → size ≡ upTo x size c m
-  unfolding upTo
-  upTo-whole h z = rw (h, ne-eqb c 0 z)
-
-  -- with more members they have no less
-  pub upTo-grows : (d k : ℕ) → c ≤ d → m ≤ k → upTo x size c m ≤ upTo x size d k
-  unfolding upTo
-  upTo-grows d k l h = go (eqb x 0)
-    where
-      first : (a b : ℕ) → a ≤ b → (if eqb a 0 then 0 else size) ≤ (if eqb b 0 then 0 else size)
-      first zero b l = omega arith
-      first (suc a) b l = rw (ne-eqb (suc a) 0 (λ e. omega arith), ne-eqb b 0 (λ e. omega arith)) (omega arith)
-
-      go : (y : Bool) → (if y then (if eqb c 0 then 0 else size) else size * m / x) ≤ (if y then (if eqb d 0 then 0 else size) else size * k / x)
-      go true = first c d l
-      go false = div-grows (size * m) (size * k) x (mul-le-mul-left size h)
 
 -- a member of group x has what is more with it
 pub member-share : (h : Hour) (ns : List InternalSequence) (x : ℕ) (a : Amount) (j : ℕ) → member ns x j ≡ true →

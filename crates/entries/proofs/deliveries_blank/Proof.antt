@@ -13,10 +13,10 @@ use Rattle.entries.proofs.deliveries_blank.Statement.{statement}
 use Rattle.entries.proofs.deliveries_blank.Tie as tie
 
 abbrev Inv-loop : tie.InvT-loop
-Inv-loop h n i₀ i = (i ≤ 32 - n) × (deliveriesBlank h i ≡ true)
+Inv-loop n deliveries i₀ i = (i ≤ 32 - n) × (deliveriesBlank deliveries n i ≡ true)
 
 abbrev μ-loop : tie.MeasureT-loop
-μ-loop h n i₀ i = 32 - n - i
+μ-loop n deliveries i₀ i = 32 - n - i
 
 loop-holds : tie.Need-loop-holds Inv-loop μ-loop
 loop-holds c = (search needs, allTo-zero _)
@@ -30,14 +30,14 @@ add-x c = search needs
 mul-x : tie.Need-mul-x Inv-loop μ-loop
 mul-x c = search needs
 
-element-copy-out-x : tie.Need-element-copy-out-x Inv-loop μ-loop
-element-copy-out-x c = search needs
+array-copy-out-x : tie.Need-array-copy-out-x Inv-loop μ-loop
+array-copy-out-x c = search needs
 
 is-blank-delivery-requires : tie.Need-is-blank-delivery-requires Inv-loop μ-loop
 is-blank-delivery-requires c κs = search needs
 
 returns : tie.Need-returns Inv-loop μ-loop
-returns c = let size : length (c .before .before .before .before .before .args .t1 .deliveries) ≡ 32 = search (needs, length-mapped) in
+returns c = let size : length (c .before .before .before .before .before .args .t1) ≡ 32 = search (needs, length-mapped) in
     rw (eq-eqb _ _ size) (sym (allTo-fails _ _ (c .before .before .before .before .loop .i) (omega arith) (sym (c .before .is-blank-delivery .ensures) ∙ not-true _ (c .if1 .taken))))
 
 add-i : tie.Need-add-i Inv-loop μ-loop
@@ -50,7 +50,7 @@ loop-again : tie.Need-loop-again Inv-loop μ-loop
 loop-again c = (search needs, allTo-on _ _ (c .before .before .before .before .loop .inv .1) (sym (c .before .is-blank-delivery .ensures) ∙ not-false _ (c .if1 .left)))
 
 returns-2 : tie.Need-returns-2 Inv-loop μ-loop
-returns-2 c = let size : length (c .before .before .args .t1 .deliveries) ≡ 32 = search (needs, length-mapped) in
+returns-2 c = let size : length (c .before .before .args .t1) ≡ 32 = search (needs, length-mapped) in
     rw (eq-eqb _ _ size) (sym (allTo-end _ _ (c .before .loop .i) (omega arith) (omega arith) (c .before .loop .inv .1)))
 
 pub deliveries-blank-spec : {M : Type 1} → statement M
@@ -63,7 +63,7 @@ deliveries-blank-spec =
     sub-loop
     add-x
     mul-x
-    element-copy-out-x
+    array-copy-out-x
     is-blank-delivery-requires
     returns
     add-i

@@ -11,10 +11,10 @@ use Rattle.hour.proofs.first_placed.Statement.{statement}
 use Rattle.hour.proofs.first_placed.Tie as tie
 
 abbrev Inv-loop : tie.InvT-loop
-Inv-loop placed h n i₀ i = (i ≤ n) × (placedTo h placed i ≡ none)
+Inv-loop n placed deliveries i₀ i = (i ≤ n) × (placedTo deliveries placed i ≡ none)
 
 abbrev μ-loop : tie.MeasureT-loop
-μ-loop placed h n i₀ i = n - i
+μ-loop n placed deliveries i₀ i = n - i
 
 loop-holds : tie.Need-loop-holds Inv-loop μ-loop
 loop-holds c = (search needs, findTo-zero _)
@@ -22,8 +22,8 @@ loop-holds c = (search needs, findTo-zero _)
 mul-x : tie.Need-mul-x Inv-loop μ-loop
 mul-x c = search needs
 
-element-copy-out-x : tie.Need-element-copy-out-x Inv-loop μ-loop
-element-copy-out-x c = search needs
+array-copy-out-x : tie.Need-array-copy-out-x Inv-loop μ-loop
+array-copy-out-x c = search needs
 
 placed-is-requires : tie.Need-placed-is-requires Inv-loop μ-loop
 placed-is-requires c κs = search needs
@@ -51,7 +51,7 @@ first-placed-spec =
     μ-loop
     loop-holds
     mul-x
-    element-copy-out-x
+    array-copy-out-x
     placed-is-requires
     returns
     add-i

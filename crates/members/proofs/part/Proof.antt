@@ -1,6 +1,6 @@
 -- `members::part` meets its contract: with all of the MWh the members have all.
 use borrow.Author.Needs.{needs}
-use Rattle.members.specs.Rows.{upTo-all}
+use Rattle.laws.specs.Parts.{upTo-all}
 use Rattle.members.proofs.part.Statement.{statement}
 use Rattle.members.proofs.part.Tie as tie
 

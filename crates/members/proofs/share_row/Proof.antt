@@ -7,7 +7,8 @@ use lib.ListN.{getD}
 use mir.Syntax.{w64}
 use mir.Val.{toZ, ofZ}
 use Rattle.members.specs.Live.{reached}
-use Rattle.members.specs.Rows.{upTo-most, Row, row-none, row-next, row-all}
+use Rattle.laws.specs.Parts.{upTo-most}
+use Rattle.members.specs.Rows.{Row, row-none, row-next, row-all}
 use Rattle.members.proofs.share_row.Statement.{statement}
 use Rattle.members.proofs.share_row.Tie as tie
 

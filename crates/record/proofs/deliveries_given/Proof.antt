@@ -8,18 +8,18 @@ use borrow.Author.Needs.{needs}
 use Rattle.rules.specs.Words.{allTo}
 use Rattle.hour.specs.declared.Key.{Key}
 use Rattle.hour.specs.Finds.{allTo-zero}
-use Rattle.record.specs.Steps.{delivery-same, deliveries-failed, deliveries-all}
-use Rattle.record.specs.Fill.{fillTo-zero, fillTo-more, fillTo-end}
+use Rattle.record.specs.Steps.{delivery-same}
+use Rattle.record.specs.Fill.{fillTo-zero, fillTo-more}
 use Rattle.record.specs.Own.{tlosTo, thisTo, deliveryOwnAt}
-use Rattle.entries.specs.Loops.{allTo-on, allTo-end}
+use Rattle.entries.specs.Loops.{allTo-on, allTo-fails, allTo-end}
 use Rattle.record.proofs.deliveries_given.Statement.{statement}
 use Rattle.record.proofs.deliveries_given.Tie as tie
 
 abbrev Inv-loop : tie.InvT-loop
-Inv-loop h n sources lo₀ hi₀ i₀ lo hi i = (i ≤ n) × (allTo (deliveryOwnAt h) i ≡ true) × (lo ≡ tlosTo h i) × (hi ≡ thisTo h i)
+Inv-loop n m deliveries lo₀ hi₀ i₀ lo hi i = (i ≤ m) × (allTo (deliveryOwnAt n deliveries) i ≡ true) × (lo ≡ tlosTo deliveries i) × (hi ≡ thisTo deliveries i)
 
 abbrev μ-loop : tie.MeasureT-loop
-μ-loop h n sources lo₀ hi₀ i₀ lo hi i = n - i
+μ-loop n m deliveries lo₀ hi₀ i₀ lo hi i = m - i
 
 loop-holds : tie.Need-loop-holds Inv-loop μ-loop
 loop-holds c = (search needs, allTo-zero _, sym (fillTo-zero _ _), sym (fillTo-zero _ _))
@@ -27,8 +27,8 @@ loop-holds c = (search needs, allTo-zero _, sym (fillTo-zero _ _), sym (fillTo-z
 mul-x : tie.Need-mul-x Inv-loop μ-loop
 mul-x c = search needs
 
-element-copy-out-x : tie.Need-element-copy-out-x Inv-loop μ-loop
-element-copy-out-x c = search needs
+array-copy-out-x : tie.Need-array-copy-out-x Inv-loop μ-loop
+array-copy-out-x c = search needs
 
 key-of-requires : tie.Need-key-of-requires Inv-loop μ-loop
 key-of-requires c κs = search needs
@@ -36,11 +36,8 @@ key-of-requires c κs = search needs
 delivery-given-requires : tie.Need-delivery-given-requires Inv-loop μ-loop
 delivery-given-requires c κs = search needs
 
-no-deliveries-requires : tie.Need-no-deliveries-requires Inv-loop μ-loop
-no-deliveries-requires c κs = search needs
-
 returns : tie.Need-returns Inv-loop μ-loop
-returns c = c .no-deliveries .ensures ∙ deliveries-failed (c .before .before .before .before .before .before .before .before .before .before .args .t1) (c .before .before .before .before .before .before .before .before .before .loop .i) (omega arith) (sym (delivery-same _ _ _ _ _ _ _ _ _ (c .before .before .before .before .before .key-of .ensures) (c .before .before .before .before .before .before .before .before .before .loop .inv .2) (c .before .before .before .before .before .before .before .before .before .loop .inv .3)) ∙ sym (c .before .before .delivery-given .ensures) ∙ not-true _ (c .before .if1 .taken))
+returns c = sym (allTo-fails _ _ (c .before .before .before .before .before .before .before .before .loop .i) (omega arith) (sym (delivery-same _ _ _ _ _ _ _ _ _ (c .before .before .before .before .key-of .ensures) (c .before .before .before .before .before .before .before .before .loop .inv .2) (c .before .before .before .before .before .before .before .before .loop .inv .3)) ∙ sym (c .before .delivery-given .ensures) ∙ not-true _ (c .if1 .taken)))
 
 mul-lo : tie.Need-mul-lo Inv-loop μ-loop
 mul-lo c = search needs
@@ -65,7 +62,7 @@ loop-again c = let inv = c .before .before .before .before .before .before .befo
     (search needs, allTo-on _ _ (inv .1) (sym (delivery-same _ _ _ _ _ _ _ _ _ (c .before .before .before .before .key-of .ensures) (c .before .before .before .before .before .before .before .before .loop .inv .2) (c .before .before .before .before .before .before .before .before .loop .inv .3)) ∙ sym (c .before .delivery-given .ensures) ∙ not-false _ (c .if1 .left)), fillTo-more _ _ _ _ _ (inv .2) (ap (λ (k : Key). k .lo) (c .before .before .before .before .key-of .ensures)), fillTo-more _ _ _ _ _ (inv .3) (ap (λ (k : Key). k .hi) (c .before .before .before .before .key-of .ensures)))
 
 returns-2 : tie.Need-returns-2 Inv-loop μ-loop
-returns-2 c = deliveries-all (c .before .before .args .t1) _ _ (allTo-end _ _ _ (omega arith) (omega arith) (c .before .loop .inv .1)) (fillTo-end _ _ _ _ _ (omega arith) (omega arith) (c .before .loop .inv .2)) (fillTo-end _ _ _ _ _ (omega arith) (omega arith) (c .before .loop .inv .3))
+returns-2 c = sym (allTo-end _ _ (c .before .loop .i) (omega arith) (omega arith) (c .before .loop .inv .1))
 
 pub deliveries-given-spec : {M : Type 1} → statement M
 deliveries-given-spec =
@@ -75,10 +72,9 @@ deliveries-given-spec =
     μ-loop
     loop-holds
     mul-x
-    element-copy-out-x
+    array-copy-out-x
     key-of-requires
     delivery-given-requires
-    no-deliveries-requires
     returns
     mul-lo
     array-write-lo

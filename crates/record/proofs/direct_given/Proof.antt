@@ -1,7 +1,9 @@
--- The two places, then what the rules say.
-use borrow.Author.Tests.{lt-ltb, le-ltb}
+-- The two places, then each rule in turn.
+use mathlib.Core.Path.{sym, _∙_}
+use borrow.Author.Tests.{lt-ltb, le-ltb, le-leb, lt-leb, eq-eqb, ne-eqb, not-true, not-false}
 use borrow.Author.Needs.{needs}
 use Rattle.record.specs.Own as own
+use Rattle.record.specs.Steps.{sum-not-over}
 use Rattle.record.proofs.direct_given.Statement.{statement}
 use Rattle.record.proofs.direct_given.Tie as tie
 
@@ -13,28 +15,64 @@ returns-2 : tie.Need-returns-2
 unfolding own.directOwn
 returns-2 c = rw (lt-ltb _ _ (c .before .before .before .if1 .left), le-ltb _ _ (c .if2 .taken))
 
-own-line-requires : tie.Need-own-line-requires
-own-line-requires c κs = search needs
-
 direct-in-range-requires : tie.Need-direct-in-range-requires
 direct-in-range-requires c κs = search needs
 
-take-direct-requires : tie.Need-take-direct-requires
-take-direct-requires c κs = search needs
-
-enum-known-y : tie.Need-enum-known-y
-enum-known-y c = search needs
-
-enum-told : tie.Need-enum-told
-enum-told c = search needs
-
 returns-3 : tie.Need-returns-3
 unfolding own.directOwn
-returns-3 c = rw (lt-ltb _ _ (c .before .before .before .before .before .before .before .before .if1 .left), lt-ltb _ _ (c .before .before .before .before .before .if2 .left), ← (c .before .before .before .before .own-line .ensures), ← (c .before .before .before .direct-in-range .ensures), ← (c .before .before .take-direct .ensures), c .enum-told .given .1)
+returns-3 c = rw (lt-ltb _ _ (c .before .before .before .before .before .if1 .left), lt-ltb _ _ (c .before .before .if2 .left), sym (c .before .direct-in-range .ensures) ∙ not-true _ (c .if3 .taken))
 
 returns-4 : tie.Need-returns-4
 unfolding own.directOwn
-returns-4 c = rw (lt-ltb _ _ (c .before .before .before .before .before .before .before .before .before .if1 .left), lt-ltb _ _ (c .before .before .before .before .before .before .if2 .left), ← (c .before .before .before .before .before .own-line .ensures), ← (c .before .before .before .before .direct-in-range .ensures), ← (c .before .before .before .take-direct .ensures), c .before .y .given .1)
+returns-4 c = rw (lt-ltb _ _ (c .before .before .before .before .before .before .before .if1 .left), lt-ltb _ _ (c .before .before .before .before .if2 .left), sym (c .before .before .before .direct-in-range .ensures) ∙ not-false _ (c .before .before .if3 .left), le-leb _ _ (c .if4 .taken))
+
+mul-if5 : tie.Need-mul-if5
+mul-if5 c = search needs
+
+element-copy-out-if5 : tie.Need-element-copy-out-if5
+element-copy-out-if5 c = search needs
+
+returns-5 : tie.Need-returns-5
+unfolding own.directOwn
+returns-5 c = rw (lt-ltb _ _ (c .before .before .before .before .before .before .before .before .before .if1 .left), lt-ltb _ _ (c .before .before .before .before .before .before .if2 .left), sym (c .before .before .before .before .before .direct-in-range .ensures) ∙ not-false _ (c .before .before .before .before .if3 .left), lt-leb _ _ (c .before .before .if4 .left), eq-eqb _ _ (c .if5 .taken))
+
+mul-basis-allowed : tie.Need-mul-basis-allowed
+mul-basis-allowed c = search needs
+
+element-copy-out-basis-allowed : tie.Need-element-copy-out-basis-allowed
+element-copy-out-basis-allowed c = search needs
+
+mul-basis-allowed-2 : tie.Need-mul-basis-allowed-2
+mul-basis-allowed-2 c = search needs
+
+element-copy-out-basis-allowed-2 : tie.Need-element-copy-out-basis-allowed-2
+element-copy-out-basis-allowed-2 c = search needs
+
+basis-allowed-requires : tie.Need-basis-allowed-requires
+basis-allowed-requires c κs = search needs
+
+returns-6 : tie.Need-returns-6
+unfolding own.directOwn
+returns-6 c = rw (lt-ltb _ _ (c .before .before .before .before .before .before .before .before .before .before .before .before .before .if1 .left), lt-ltb _ _ (c .before .before .before .before .before .before .before .before .before .before .if2 .left), sym (c .before .before .before .before .before .before .before .before .before .direct-in-range .ensures) ∙ not-false _ (c .before .before .before .before .before .before .before .before .if3 .left), lt-leb _ _ (c .before .before .before .before .before .before .if4 .left), ne-eqb _ _ (c .before .before .before .before .if5 .left), sym (c .before .basis-allowed .ensures) ∙ not-true _ (c .if6 .taken))
+
+mul-wide : tie.Need-mul-wide
+mul-wide c = search needs
+
+element-copy-out-wide : tie.Need-element-copy-out-wide
+element-copy-out-wide c = search needs
+
+wide-requires : tie.Need-wide-requires
+wide-requires c κs = search needs
+
+wide-requires-2 : tie.Need-wide-requires-2
+wide-requires-2 c κs = search needs
+
+add-result : tie.Need-add-result
+add-result c = search needs
+
+returns-7 : tie.Need-returns-7
+unfolding own.directOwn
+returns-7 c = rw (lt-ltb _ _ (c .before .before .before .before .before .before .before .before .before .before .before .before .before .before .before .before .if1 .left), lt-ltb _ _ (c .before .before .before .before .before .before .before .before .before .before .before .before .before .if2 .left), sym (c .before .before .before .before .before .before .before .before .before .before .before .before .direct-in-range .ensures) ∙ not-false _ (c .before .before .before .before .before .before .before .before .before .before .before .if3 .left), lt-leb _ _ (c .before .before .before .before .before .before .before .before .before .if4 .left), ne-eqb _ _ (c .before .before .before .before .before .before .before .if5 .left), sym (c .before .before .before .before .basis-allowed .ensures) ∙ not-false _ (c .before .before .before .if6 .left)) (sum-not-over 100 (c .before .wide .ensures .0) (c .wide2 .ensures .0))
 
 pub direct-given-spec : {M : Type 1} → statement M
 direct-given-spec =
@@ -42,10 +80,21 @@ direct-given-spec =
     (tie.spec
     returns
     returns-2
-    own-line-requires
     direct-in-range-requires
-    take-direct-requires
-    enum-known-y
-    enum-told
     returns-3
-    returns-4)
+    returns-4
+    mul-if5
+    element-copy-out-if5
+    returns-5
+    mul-basis-allowed
+    element-copy-out-basis-allowed
+    mul-basis-allowed-2
+    element-copy-out-basis-allowed-2
+    basis-allowed-requires
+    returns-6
+    mul-wide
+    element-copy-out-wide
+    wide-requires
+    wide-requires-2
+    add-result
+    returns-7)

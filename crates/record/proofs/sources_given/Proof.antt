@@ -16,10 +16,10 @@ use Rattle.record.proofs.sources_given.Statement.{statement}
 use Rattle.record.proofs.sources_given.Tie as tie
 
 abbrev Inv-loop : tie.InvT-loop
-Inv-loop h n lo₀ hi₀ high₀ i₀ lo hi high i = (i ≤ n) × (allTo (sourceOwnAt h) i ≡ true) × (lo ≡ slosTo h i) × (hi ≡ shisTo h i) × (high ≡ highsTo h i)
+Inv-loop n sources lo₀ hi₀ high₀ i₀ lo hi high i = (i ≤ n) × (allTo (sourceOwnAt sources) i ≡ true) × (lo ≡ slosTo sources i) × (hi ≡ shisTo sources i) × (high ≡ highsTo sources i)
 
 abbrev μ-loop : tie.MeasureT-loop
-μ-loop h n lo₀ hi₀ high₀ i₀ lo hi high i = n - i
+μ-loop n sources lo₀ hi₀ high₀ i₀ lo hi high i = n - i
 
 loop-holds : tie.Need-loop-holds Inv-loop μ-loop
 loop-holds c = (search needs, allTo-zero _, sym (fillTo-zero _ _), sym (fillTo-zero _ _), sym (fillTo-zero _ _))
@@ -27,8 +27,8 @@ loop-holds c = (search needs, allTo-zero _, sym (fillTo-zero _ _), sym (fillTo-z
 mul-x : tie.Need-mul-x Inv-loop μ-loop
 mul-x c = search needs
 
-element-copy-out-x : tie.Need-element-copy-out-x Inv-loop μ-loop
-element-copy-out-x c = search needs
+array-copy-out-x : tie.Need-array-copy-out-x Inv-loop μ-loop
+array-copy-out-x c = search needs
 
 key-of-requires : tie.Need-key-of-requires Inv-loop μ-loop
 key-of-requires c κs = search needs
@@ -40,7 +40,7 @@ no-sources-requires : tie.Need-no-sources-requires Inv-loop μ-loop
 no-sources-requires c κs = search needs
 
 returns : tie.Need-returns Inv-loop μ-loop
-returns c = c .no-sources .ensures ∙ sources-failed (c .before .before .before .before .before .before .before .before .before .before .args .t1) (c .before .before .before .before .before .before .before .before .before .loop .i) (omega arith) (sym (source-same _ _ _ _ _ _ _ _ (c .before .before .before .before .before .key-of .ensures) (c .before .before .before .before .before .before .before .before .before .loop .inv .2) (c .before .before .before .before .before .before .before .before .before .loop .inv .3)) ∙ sym (c .before .before .source-given .ensures) ∙ not-true _ (c .before .if1 .taken))
+returns c = c .no-sources .ensures ∙ sources-failed (c .before .before .before .before .before .before .before .before .before .before .args .t1) _ (c .before .before .before .before .before .before .before .before .before .loop .i) (omega arith) (sym (source-same _ _ _ _ _ _ _ _ (c .before .before .before .before .before .key-of .ensures) (c .before .before .before .before .before .before .before .before .before .loop .inv .2) (c .before .before .before .before .before .before .before .before .before .loop .inv .3)) ∙ sym (c .before .before .source-given .ensures) ∙ not-true _ (c .before .if1 .taken))
 
 mul-lo : tie.Need-mul-lo Inv-loop μ-loop
 mul-lo c = search needs
@@ -74,7 +74,7 @@ loop-again c = let inv = c .before .before .before .before .before .before .befo
     (search needs, allTo-on _ _ (inv .1) (sym (source-same _ _ _ _ _ _ _ _ (c .before .before .before .before .before .key-of .ensures) (c .before .before .before .before .before .before .before .before .before .loop .inv .2) (c .before .before .before .before .before .before .before .before .before .loop .inv .3)) ∙ sym (c .before .before .source-given .ensures) ∙ not-false _ (c .before .if1 .left)), fillTo-more _ _ _ _ _ (inv .2) (ap (λ (k : Key). k .lo) (c .before .before .before .before .before .key-of .ensures)), fillTo-more _ _ _ _ _ (inv .3) (ap (λ (k : Key). k .hi) (c .before .before .before .before .before .key-of .ensures)), fillTo-more _ _ _ _ _ (inv .4) (c .unit-high .ensures))
 
 returns-2 : tie.Need-returns-2 Inv-loop μ-loop
-returns-2 c = sources-all (c .before .before .args .t1) _ _ _ (allTo-end _ _ _ (omega arith) (omega arith) (c .before .loop .inv .1)) (fillTo-end _ _ _ _ _ (omega arith) (omega arith) (c .before .loop .inv .2)) (fillTo-end _ _ _ _ _ (omega arith) (omega arith) (c .before .loop .inv .3)) (fillTo-end _ _ _ _ _ (omega arith) (omega arith) (c .before .loop .inv .4))
+returns-2 c = sources-all (c .before .before .args .t1) _ _ (allTo-end _ _ _ (omega arith) (omega arith) (c .before .loop .inv .1)) (fillTo-end _ _ _ _ _ (omega arith) (omega arith) (c .before .loop .inv .4))
 
 pub sources-given-spec : {M : Type 1} → statement M
 sources-given-spec =
@@ -84,7 +84,7 @@ sources-given-spec =
     μ-loop
     loop-holds
     mul-x
-    element-copy-out-x
+    array-copy-out-x
     key-of-requires
     source-given-requires
     no-sources-requires

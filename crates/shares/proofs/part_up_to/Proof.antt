@@ -2,7 +2,7 @@
 use native.Mathlib.Nat.{mul-le-mul}
 use native.Mathlib.Omega.{arith}
 use borrow.Author.Needs.{needs}
-use Rattle.shares.specs.Sharing.{upTo-part, upTo-none, upTo-whole}
+use Rattle.laws.specs.Parts.{upTo-part, upTo-none, upTo-whole}
 use Rattle.shares.proofs.part_up_to.Statement.{statement}
 use Rattle.shares.proofs.part_up_to.Tie as tie
 

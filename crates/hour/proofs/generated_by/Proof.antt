@@ -1,19 +1,18 @@
--- The first i deliveries sum to what is summed so far.
-use mathlib.Core.Path.{_≡_}
+-- The first i sources sum to what is summed so far.
+use mathlib.Core.Path.{_≡_, _∙_}
 use Prim.Native.Nat.{_-_, _*_, _≤_}
 use native.Mathlib.Omega.{arith}
 use borrow.Author.Needs.{needs}
-use Rattle.rules.specs.Record.{deliveryAt}
-use Rattle.rules.specs.Words.{sumTo}
 use Rattle.laws.specs.Sums.{sumTo-none, sumTo-more, sumTo-end}
-use Rattle.hour.proofs.sum_delivered.Statement.{statement}
-use Rattle.hour.proofs.sum_delivered.Tie as tie
+use Rattle.hour.specs.Tried.{generatedTo}
+use Rattle.hour.proofs.generated_by.Statement.{statement}
+use Rattle.hour.proofs.generated_by.Tie as tie
 
 abbrev Inv-loop : tie.InvT-loop
-Inv-loop h n sum₀ i₀ sum i = (i ≤ n) × (sum ≤ i * 4294967296) × (sum ≡ sumTo (λ k. deliveryAt h k .mwh) i)
+Inv-loop n sources sum₀ i₀ sum i = (i ≤ n) × (sum ≤ i * 4294967296) × (sum ≡ generatedTo sources i)
 
 abbrev μ-loop : tie.MeasureT-loop
-μ-loop h n sum₀ i₀ sum i = n - i
+μ-loop n sources sum₀ i₀ sum i = n - i
 
 loop-holds : tie.Need-loop-holds Inv-loop μ-loop
 loop-holds c = (search needs, search needs, sumTo-none _)
@@ -21,8 +20,11 @@ loop-holds c = (search needs, search needs, sumTo-none _)
 mul-x : tie.Need-mul-x Inv-loop μ-loop
 mul-x c = search needs
 
-element-copy-out-x : tie.Need-element-copy-out-x Inv-loop μ-loop
-element-copy-out-x c = search needs
+array-copy-out-x : tie.Need-array-copy-out-x Inv-loop μ-loop
+array-copy-out-x c = search needs
+
+generation-of-requires : tie.Need-generation-of-requires Inv-loop μ-loop
+generation-of-requires c κs = search needs
 
 wide-requires : tie.Need-wide-requires Inv-loop μ-loop
 wide-requires c κs = search needs
@@ -37,20 +39,21 @@ loop-less : tie.Need-loop-less Inv-loop μ-loop
 loop-less c = search needs
 
 loop-again : tie.Need-loop-again Inv-loop μ-loop
-loop-again c = (search needs, search needs, sumTo-more _ _ _ _ (c .before .before .before .loop .inv .2) (c .wide .ensures .0))
+loop-again c = (search needs, search needs, sumTo-more _ _ _ _ (c .before .before .before .before .loop .inv .2) (c .wide .ensures .0 ∙ c .before .generation-of .ensures))
 
 returns : tie.Need-returns Inv-loop μ-loop
 returns c = (sumTo-end _ _ _ _ (omega arith) (omega arith) (c .before .loop .inv .2), search needs)
 
-pub sum-delivered-spec : {M : Type 1} → statement M
-sum-delivered-spec =
+pub generated-by-spec : {M : Type 1} → statement M
+generated-by-spec =
     tie.close
     (tie.spec
     Inv-loop
     μ-loop
     loop-holds
     mul-x
-    element-copy-out-x
+    array-copy-out-x
+    generation-of-requires
     wide-requires
     add-sum
     add-i
