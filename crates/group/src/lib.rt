@@ -217,9 +217,11 @@ pub fn settle(
             let taken = shift::take(by_price, up, &one, &step, &span, &inv, &cap, n, rest);
             let mut k = 0;
             while k < n {
-                let s = end.states[k];
                 let t = taken[k];
-                end.states[k] = shift::shift_one(up, s, t);
+                if 0 < t {
+                    let s = end.states[k];
+                    end.states[k] = shift::shift_one(up, s, t);
+                }
                 k += 1;
             }
             return end;

@@ -5,14 +5,11 @@ use mathlib.Core.List.{List}
 use mathlib.Core.Logic.{⊎-elim}
 use mathlib.Core.Option.{Option, none, some}
 use Prim.Native.Nat.{ℕ, zero, suc, _+_, _<_, _≤_}
-use native.Mathlib.Decide.{decLt}
 use native.Mathlib.Nat.{eq-or-lt-of-le, le-of-suc-le-suc}
 use native.Mathlib.Numerals.{add-one}
 use native.Mathlib.Omega.{arith}
-use lib.Dec.{ltb}
 use lib.ListN.{length, getD, set}
 use lib.Seq.{getD-set-same, getD-set-other}
-use borrow.Author.Tests.{lt-ltb, le-ltb}
 use Rattle.rules.specs.Words as words
 use Rattle.rules.specs.Words.{if_then_else_, allTo, _otherwise_, findTo}
 use Rattle.laws.specs.Choices.{true-not-false}
@@ -126,20 +123,6 @@ pub allTo-same : (p q : ℕ → Bool) (n : ℕ) → ((i : ℕ) → i < n → p i
 unfolding words.allTo
 allTo-same p q zero h = refl
 allTo-same p q (suc n) h = rw (allTo-same p q n (λ i l. h i (omega arith)), h n (omega arith))
-
--- those of m that are below n
-allTo-below : (p : ℕ → Bool) (n m : ℕ) → n ≤ m → allTo (λ i. not (ltb i n && p i)) m ≡ allTo (λ i. not (p i)) n
-unfolding words.allTo
-allTo-below p n zero h = let q : n ≡ 0 = omega arith in rw q
-allTo-below p n (suc m) h = elim (decLt m n) [
-  | yes l ↦ (
-      let q : n ≡ suc m = omega arith in
-      rw q (allTo-same (λ i. not (ltb i (suc m) && p i)) (λ i. not (p i)) (suc m) (λ i k. rw (lt-ltb i (suc m) k))))
-  | no l ↦ rw (le-ltb m n (omega arith)) (and-true (allTo (λ i. not (ltb i n && p i)) m) ∙ allTo-below p n m (omega arith))
-]
-
-pub found-below : (p : ℕ → Bool) (n m : ℕ) → n ≤ m → not (allTo (λ i. not (ltb i n && p i)) m) ≡ isFound (spotOf (findTo p n))
-found-below p n m h = ap not (allTo-below p n m h) ∙ found-not-all p n
 
 -- of a list with its element n set
 pub allTo-set : {B : Type 0} (f : B → Bool) (xs : List B) (d x : B) (n : ℕ) → n < length xs

@@ -1,11 +1,11 @@
 -- Labels as keys of two numbers, and the tables that hold them.
-use mathlib.Core.Bool.{Bool, not, _&&_}
+use mathlib.Core.Bool.{Bool, _&&_}
 use mathlib.Core.List.{List}
 use mathlib.Core.Option.{Option, none, some}
 use Prim.Native.Nat.{ℕ, zero, suc, _+_, _*_}
-use lib.Dec.{ltb, eqb}
+use lib.Dec.{eqb}
 use lib.ListN.{getD}
-use Rattle.rules.specs.Words.{allTo, findTo}
+use Rattle.rules.specs.Words.{findTo}
 use Rattle.rules.specs.declared.Label.{Label}
 use Rattle.hour.specs.declared.Key.{Key}
 use Rattle.hour.specs.declared.Spot.{Spot}
@@ -38,10 +38,6 @@ keyAt lo hi i = record { lo = getD lo i 0; hi = getD hi i 0 }
 
 abbrev pub keyTo : List ℕ → List ℕ → Key → ℕ → Option ℕ
 keyTo lo hi k n = findTo (λ i. sameKey (keyAt lo hi i) k) n
-
--- whether a key stands at none of m places that are below n
-abbrev pub unusedTo : List ℕ → List ℕ → ℕ → Key → ℕ → Bool
-unusedTo lo hi n k m = allTo (λ i. not (ltb i n && sameKey (keyAt lo hi i) k)) m
 
 abbrev pub keyFound : List ℕ → List ℕ → ℕ → Key → Spot
 keyFound lo hi n k = spotOf (keyTo lo hi k n)

@@ -7,7 +7,7 @@ ghost use lib.Dec.{eqb};
 ghost use Rattle.rules.specs.Units.{generation, ordered, levelled};
 ghost use Rattle.rules.specs.Reading.{generated, delivered, finished};
 ghost use Rattle.hour.specs.Keys.{halfOf, keyOf, sameKey, keyFound};
-ghost use Rattle.hour.specs.Tried.{verdictOf, entryOf, countsOf, Few, nextLine, labelTried, sourceTried, deliveryTried, unitHigh, basisCode, codeLeaves, belowMost, isFound, pairFound, directTried, generatedTo, deliveredTo, placedIs, firstPlaced};
+ghost use Rattle.hour.specs.Tried.{verdictOf, entryOf, countsOf, Few, nextLine, labelTried, sourceTried, deliveryTried, unitHigh, basisCode, codeLeaves, belowMost, pairFound, directTried, generatedTo, deliveredTo, placedIs, firstPlaced};
 use rules::Basis;
 use rules::Delivery;
 use rules::Direct;
@@ -131,24 +131,6 @@ pub fn find_key(lo: &[u64; 32], hi: &[u64; 32], n: usize, k: Key) -> Spot
     Spot::Nowhere
 }
 
-// Whether a key stands at one of the first n places: all 32 are looked at, without a way out.
-fn is_used(lo: &[u64; 32], hi: &[u64; 32], n: usize, k: Key) -> bool
-    requires { ⌜ n ≤ 32 ⌝ }
-    ensures { λ r. ⌜ r ≡ isFound (keyFound (now (lo .entry)) (now (hi .entry)) n k) ⌝ }
-{
-    let mut unused = true;
-    let mut i: usize = 0;
-    while i < 32 {
-        let here = Key {
-            lo: lo[i],
-            hi: hi[i],
-        };
-        unused = unused & !((i < n) & same_key(here, k));
-        i += 1;
-    }
-    !unused
-}
-
 fn in_order(u: Unit) -> bool
     ensures { λ r. ⌜ r ≡ ordered u ⌝ }
 {
@@ -203,7 +185,7 @@ fn take_label(
     if 32 <= n {
         return Verdict::Refused(Refusal::Full(line));
     }
-    if is_used(lo, hi, n, key) {
+    if let Spot::At(i) = find_key(lo, hi, n, key) {
         return Verdict::Refused(Refusal::Used(line));
     }
     Verdict::Accepted

@@ -15,7 +15,7 @@ use Rattle.merit.specs.LevelNeverBelowB.{Sound, opened-sound, stateAt, Took, mo
 use Rattle.merit.specs.NumbersStaySmall.{PlantSmall, Small, CurveSmall, opened-small, took-small, shift-small}
 use Rattle.merit.specs.PricesRise.{price}
 use Rattle.merit.specs.RemainderMoves.{Shift, down, up, shift-moved, room-open, remainder-moves}
-use Rattle.rules.specs.Group.{noRunning, opened, remainder, level, Rung, room, headroom, headroomOf, lowered, raised}
+use Rattle.rules.specs.Group.{noRunning, opened, remainder, level, Rung, room, headroom, headroomOf, withOpen, lowered, raised}
 use Rattle.rules.specs.Refusals.{accepted}
 use Rattle.rules.specs.Units.{levelled, generation}
 use Rattle.rules.specs.Words.{if_then_else_}
@@ -132,6 +132,17 @@ module _ (up : Bool) (ss : List Running) (t : ℕ → ℕ) where
         (getD-set-same us n y noRunning (omega (arith, s .long)) ∙ e ∙ ap (λ (x : Running). shifted up x (t n)) (s .beyond n (omega arith))));
     beyond = λ i m. getD-set-other us n i y noRunning (λ q. omega arith) ∙ s .beyond i (omega arith);
   }
+
+  pub shifted-skip : (n : ℕ) (us : List Running) → t n ≡ 0 → Shifted up ss n t us → Shifted up ss (n + 1) t us
+  shifted-skip n us z s = record {
+    long = s .long;
+    inside = rw (add-one n) (below-suc (λ i. stateAt us i ≡ shifted up (stateAt ss i) (t i)) n (λ i m. s .inside i m) (s .beyond n (omega arith) ∙ still up (stateAt ss n) (t n) z));
+    beyond = λ i m. s .beyond i (omega arith);
+  }
+    where
+      still : (up : Bool) (x : Running) (k : ℕ) → k ≡ 0 → x ≡ shifted up x k
+      still true x k e = ap (withOpen x) (omega arith)
+      still false x k e = ap (withOpen x) (omega arith)
 
   pub shifted-all : (n i : ℕ) (us : List Running) → i ≤ n → n ≤ i → Shifted up ss i t us → Shifted up ss n t us
   shifted-all n i us l m s = let e : i ≡ n = omega arith in rw e at s

@@ -1,4 +1,5 @@
 -- `group::settle` meets its contract: the ways before have too little room; the lines of one stand, and its states are moved, up to the index.
+use mathlib.Core.Logic.{⊎-elim}
 use mathlib.Core.Path.{_≡_, refl, sym, ap, _∙_}
 use Prim.Native.Nat.{_*_, _-_, _≤_, _<_}
 use native.Mathlib.Omega.{arith}
@@ -12,7 +13,7 @@ use Rattle.laws.specs.Sums.{sumTo-none, sumTo-more, sumTo-end}
 use Rattle.marks.specs.Lines.{at}
 use Rattle.merit.specs.LevelNeverBelowB.{stateAt}
 use Rattle.rules.specs.Group.{all}
-use Rattle.shift.specs.Ready.{AllWithin, Shifted, shifted-none, shifted-more, shifted-all}
+use Rattle.shift.specs.Ready.{AllWithin, Shifted, shifted-none, shifted-more, shifted-skip, shifted-all}
 use borrow.Author.Needs.{needs}
 use Rattle.group.proofs.settle.Statement.{statement}
 use Rattle.group.proofs.settle.Tie as tie
@@ -128,18 +129,18 @@ take-requires c κs = (lines-table (lined (c .before .before .before .before .be
 loop3-holds : tie.Need-loop3-holds Inv-loop2 μ-loop2 Inv-loop3 μ-loop3 Inv-loop μ-loop
 loop3-holds c = (omega arith, shifted-none _ _ _, c .before .before .before .before .before .before .before .before .before .before .before .loop .inv .1)
 
+mul-t : tie.Need-mul-t Inv-loop2 μ-loop2 Inv-loop3 μ-loop3 Inv-loop μ-loop
+mul-t c = search needs
+
+array-read-t : tie.Need-array-read-t Inv-loop2 μ-loop2 Inv-loop3 μ-loop3 Inv-loop μ-loop
+array-read-t c = search needs
+
 mul-s-2 : tie.Need-mul-s-2 Inv-loop2 μ-loop2 Inv-loop3 μ-loop3 Inv-loop μ-loop
 mul-s-2 c = search needs
 
 element-copy-out-s-2 :
     tie.Need-element-copy-out-s-2 Inv-loop2 μ-loop2 Inv-loop3 μ-loop3 Inv-loop μ-loop
 element-copy-out-s-2 c = search needs
-
-mul-t : tie.Need-mul-t Inv-loop2 μ-loop2 Inv-loop3 μ-loop3 Inv-loop μ-loop
-mul-t c = search needs
-
-array-read-t : tie.Need-array-read-t Inv-loop2 μ-loop2 Inv-loop3 μ-loop3 Inv-loop μ-loop
-array-read-t c = search needs
 
 taken : (c : tie.After-take Inv-loop2 μ-loop2 Inv-loop3 μ-loop3 Inv-loop μ-loop) → let l = c .before .before .before .before .before .before .before .before .loop2 in Taken (upOf (c .before .before .before .before .before .before .before .before .before .way-at .result)) (l .one) (l .step) (l .cap) (c .before .before .before .before .before .before .before .before .before .before .before .before .before .before .args .n) (c .before .before .before .before .before .before .before .before .before .before .before .before .before .distance .result) (c .take .result)
 taken c = rw (way-up (c .before .before .before .before .before .before .before .before .before)) at (c .take .ensures)
@@ -150,13 +151,13 @@ within c = rw (way-up (c .before .before .before .before .before .before .before
 shift-one-requires :
     tie.Need-shift-one-requires Inv-loop2 μ-loop2 Inv-loop3 μ-loop3 Inv-loop μ-loop
 shift-one-requires c κs =
-    let l = c .before .before .loop3 in
-    let w = within (c .before .before .before) in
-    let e : stateAt (l .end .states) (l .k) ≡ stateAt (c .before .before .before .before .before .before .before .before .before .before .before .before .before .before .loop .end .states) (l .k) = l .inv .1 .beyond _ (omega arith) in
+    let l = c .before .before .before .loop3 in
+    let w = within (c .before .before .before .before) in
+    let e : stateAt (l .end .states) (l .k) ≡ stateAt (c .before .before .before .before .before .before .before .before .before .before .before .before .before .before .before .loop .end .states) (l .k) = l .inv .1 .beyond _ (omega arith) in
     rw e (w .all .ready _, w .within _ (omega arith))
 
-mul-t51 : tie.Need-mul-t51 Inv-loop2 μ-loop2 Inv-loop3 μ-loop3 Inv-loop μ-loop
-mul-t51 c = search needs
+mul-t55 : tie.Need-mul-t55 Inv-loop2 μ-loop2 Inv-loop3 μ-loop3 Inv-loop μ-loop
+mul-t55 c = search needs
 
 element-set-from-end :
     tie.Need-element-set-from-end Inv-loop2 μ-loop2 Inv-loop3 μ-loop3 Inv-loop μ-loop
@@ -169,7 +170,12 @@ loop3-less : tie.Need-loop3-less Inv-loop2 μ-loop2 Inv-loop3 μ-loop3 Inv-loop 
 loop3-less c = search needs
 
 loop3-again : tie.Need-loop3-again Inv-loop2 μ-loop2 Inv-loop3 μ-loop3 Inv-loop μ-loop
-loop3-again c = (omega arith, shifted-more _ _ _ _ _ _ (omega arith) (c .before .before .before .before .before .before .before .before .before .before .before .before .before .before .before .loop .inv .2 .long) (c .before .before .before .loop3 .inv .1) (c .shift-one .ensures), c .before .before .before .loop3 .inv .2)
+loop3-again c =
+    let l = c .before .before .loop3 in
+    ⊎-elim
+    (λ w. (omega arith, rw (w .3) (shifted-more _ _ _ _ _ _ (omega arith) (c .before .before .before .before .before .before .before .before .before .before .before .before .before .before .loop .inv .2 .long) (l .inv .1) (w .2 .ensures)), rw (w .3) (l .inv .2)))
+    (λ w. (omega arith, rw (w .1) (shifted-skip _ _ _ _ _ (omega (arith, w .0 .left)) (l .inv .1)), rw (w .1) (l .inv .2)))
+    (c .if2 .came)
 
 returns : tie.Need-returns Inv-loop2 μ-loop2 Inv-loop3 μ-loop3 Inv-loop μ-loop
 returns c =
@@ -245,12 +251,12 @@ settle-spec =
     loop2-again
     take-requires
     loop3-holds
-    mul-s-2
-    element-copy-out-s-2
     mul-t
     array-read-t
+    mul-s-2
+    element-copy-out-s-2
     shift-one-requires
-    mul-t51
+    mul-t55
     element-set-from-end
     add-k
     loop3-less
