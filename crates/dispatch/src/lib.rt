@@ -321,7 +321,7 @@ fn take_best(
 }
 
 // The merit, plus 1, of the last MWh of a source that has room for the whole total, the best there is; 0 where there is none.
-fn bar_of(one: &[u64; 32], step: &[u64; 32], cap: &[u64; 32], n: usize, total: u64) -> u64
+fn best_last(one: &[u64; 32], step: &[u64; 32], cap: &[u64; 32], n: usize, total: u64) -> u64
     requires { ⌜ Sources (now one) (now step) (now cap) n ⌝ }
     ensures { λ b. ⌜ Bar (now (one .entry)) (now (step .entry)) (now (cap .entry)) n total b ⌝ }
 {
@@ -336,6 +336,17 @@ fn bar_of(one: &[u64; 32], step: &[u64; 32], cap: &[u64; 32], n: usize, total: u
         i += 1;
     }
     bar
+}
+
+// The same; 0 also for so few sources that leaving some out does not pay.
+fn bar_of(one: &[u64; 32], step: &[u64; 32], cap: &[u64; 32], n: usize, total: u64) -> u64
+    requires { ⌜ Sources (now one) (now step) (now cap) n ⌝ }
+    ensures { λ b. ⌜ Bar (now (one .entry)) (now (step .entry)) (now (cap .entry)) n total b ⌝ }
+{
+    if n < 12 {
+        return 0;
+    }
+    best_last(one, step, cap, n, total)
 }
 
 // The places of the sources that reach the bar, and how many they are.
