@@ -1,9 +1,9 @@
 -- A source's prices lie on a line: with numbers b, c and r as a heat curve has them, the m-th MWh costs (2b + c·(2m - 1))·r.
 -- A purchase has b = 1,000·rate, c = 0, r = 1; what is never moved has zeros.
 use mathlib.Core.Bool.{Bool, true, false}
-use mathlib.Core.Path.{_≡_, refl, sym, ap, _∙_}
+use mathlib.Core.Path.{_≡_, refl, _∙_}
 use Prim.Native.Nat.{ℕ, _+_, _*_, _-_, _^_, _≤_, _<_}
-use native.Mathlib.Nat.{mul-le-mul, mul-le-mul-left, mul-le-mul-right}
+use native.Mathlib.Nat.{mul-le-mul, mul-le-mul-left}
 use native.Mathlib.Omega.{arith}
 use Rattle.marks.specs.Lines.{Falls, Source}
 use Rattle.merit.specs.PricesRise as PricesRise

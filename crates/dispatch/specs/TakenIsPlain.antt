@@ -1,15 +1,14 @@
 -- What an engine takes, of the lines of running sources, is what the plain rule of document 01 moves: by merit's `unload-whole` and `credit-whole`.
 use mathlib.Core.Bool.{Bool, true, false}
 use mathlib.Core.List.{List}
-use mathlib.Core.Logic.{_≢_}
-use mathlib.Core.Path.{_≡_, sym, ap, _∙_}
+use mathlib.Core.Path.{_≡_, _∙_}
 use Prim.Native.Nat.{ℕ, _+_, _-_, _^_, _≤_, _<_}
 use native.Mathlib.Numerals.{add-one}
 use native.Mathlib.Omega.{arith}
 use lib.ListN.{length, set, length-set}
 use lib.Seq.{getD-set-same, getD-set-other}
-use Rattle.dispatch.specs.LinesOfPrices.{Lined, priceOf, worth}
-use Rattle.dispatch.specs.Taken.{First, merit, Taken}
+use Rattle.dispatch.specs.LinesOfPrices.{Lined}
+use Rattle.dispatch.specs.Taken.{merit, Taken}
 use Rattle.laws.specs.Sums.{below-suc}
 use Rattle.marks.specs.Lines.{at, Table}
 use Rattle.merit.specs.LevelNeverBelowB.{Sound, stateAt}

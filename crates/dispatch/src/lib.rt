@@ -3,7 +3,7 @@
 // a mark, takes all above it at once, and the rest by blocks. The definitions are in specs/ and in `marks`. Internal: they know no hour, and the caller gives lines and room.
 ghost use mathlib.Core.Bool.{true, false};
 ghost use mathlib.Core.Path.{_≡_};
-ghost use Prim.Native.Nat.{ℕ, _+_, _*_, _≤_, _<_, _^_};
+ghost use Prim.Native.Nat.{_+_, _*_, _≤_, _<_, _^_};
 ghost use lib.ListN.{length};
 ghost use Rattle.rules.specs.Words.{sumTo};
 ghost use Rattle.marks.specs.Lines.{at, Falls, Source, Table, Scales};

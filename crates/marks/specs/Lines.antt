@@ -1,10 +1,9 @@
 -- A source as a falling line of merit: its MWh k has the merit one - 1 - step·k. Of no room, `one` is 0.
 -- A source's MWh above a mark are counted by the reciprocal of its step, with no division.
-use mathlib.Core.Bool.{Bool}
 use mathlib.Core.List.{List}
 use mathlib.Core.Logic.{_⊎_}
 use mathlib.Core.Path.{_≡_}
-use Prim.Native.Nat.{ℕ, suc, _+_, _*_, _-_, _/_, _^_, min, _≤_, _<_}
+use Prim.Native.Nat.{ℕ, _+_, _*_, _-_, _/_, _^_, min, _≤_, _<_}
 use lib.Dec.{ltb}
 use lib.ListN.{getD}
 use Rattle.rules.specs.Words.{if_then_else_, sumTo}

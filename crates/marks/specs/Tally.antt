@@ -1,16 +1,16 @@
 -- The stock is what its name says: w·(2^40 / d + 1) / 2^40 is w / d rounded up, or one less, and one product tells which.
 use mathlib.Core.Bool.{Bool, true, false}
 use mathlib.Core.List.{List}
-use mathlib.Core.Logic.{_⊎_, inl, inr}
-use mathlib.Core.Path.{_≡_, refl, sym, ap, _∙_}
-use Prim.Native.Nat.{ℕ, zero, suc, _+_, _*_, _-_, _/_, _^_, min, _≤_, _<_}
+use mathlib.Core.Logic.{inl, inr}
+use mathlib.Core.Path.{_≡_, refl, sym}
+use Prim.Native.Nat.{ℕ, _+_, _*_, _-_, _/_, _^_, min, _≤_, _<_}
 use native.Mathlib.Decide.{decLt, decLe}
-use native.Mathlib.Nat.{mul-zero, zero-mul, mul-le-mul, mul-le-mul-left, mul-le-mul-right, le-div-iff-mul-le, div-lt-iff-lt-mul, div-le-self}
+use native.Mathlib.Nat.{mul-zero, zero-mul, mul-le-mul, mul-le-mul-left, mul-le-mul-right, le-div-iff-mul-le, div-lt-iff-lt-mul}
 use native.Mathlib.Omega.{arith}
 use borrow.Author.Tests.{ltb-true, ltb-false, lt-ltb, le-ltb}
 use lib.Dec.{ltb}
 use Rattle.laws.specs.Sums.{sumTo-bound, sumTo-zero}
-use Rattle.marks.specs.Lines.{at, Source, Table, Scaled, Scales, stepsIn, stock, stockAt}
+use Rattle.marks.specs.Lines.{at, Source, Table, Scaled, Scales, stock, stockAt}
 use Rattle.rules.specs.Words.{if_then_else_, sumTo}
 
 -- of the MWh below cap those below q pass the test P, and no other

@@ -1,22 +1,19 @@
 -- A row: one member's cells, place by place, and what the members have with it.
 use mathlib.Core.Bool.{Bool, true, false}
 use mathlib.Core.List.{List}
-use mathlib.Core.Path.{_≡_, refl, ap, _∙_}
-use Prim.Native.Nat.{ℕ, zero, suc, _+_, _-_, _*_, _/_, _≤_, _<_}
+use mathlib.Core.Path.{_≡_, refl, _∙_}
+use Prim.Native.Nat.{ℕ, _+_, _-_, _≤_, _<_}
 use native.Mathlib.Decide.{decLt}
-use native.Mathlib.Nat.{zero-mul, mul-zero, zero-div, mul-div-cancel}
 use native.Mathlib.Numerals.{add-one}
 use native.Mathlib.Omega.{arith}
-use lib.Dec.{eqb}
 use lib.IntN.{ℤ, pos}
 use lib.ListN.{length, getD, set, length-set}
 use lib.Seq.{getD-set-same, getD-set-other}
 use Rattle.balance.specs.AnswerCells.{cellAt}
 use Rattle.laws.specs.Parts.{upTo-nothing}
-use Rattle.laws.specs.Sums.{below-suc, part-most}
+use Rattle.laws.specs.Sums.{below-suc}
 use Rattle.members.specs.Live.{reached, Listed, reached-more, reached-most}
 use Rattle.rules.specs.Group.{signed, upTo}
-use Rattle.rules.specs.Words.{if_then_else_}
 
 abbrev pub SizesSmall : ℕ → List ℕ → Type 0
 SizesSmall width sizes = (q : ℕ) → q < width → getD sizes q 0 ≤ 100_000_000_000_000

@@ -2,7 +2,7 @@
 -- and the signed costs and the open cost make up W(g) as it was before any direct allocation. Every cell fits 64 signed bits.
 use mathlib.Core.Bool.{true, not}
 use mathlib.Core.List.{List, _++_}
-use mathlib.Core.Path.{_≡_, refl, sym, ap, _∙_}
+use mathlib.Core.Path.{_≡_, refl, ap, _∙_}
 use Prim.Native.Nat.{ℕ, suc, _+_, _*_, _≤_, _<_}
 use native.Mathlib.Nat.{mul-le-mul-right}
 use native.Mathlib.Omega.{arith}

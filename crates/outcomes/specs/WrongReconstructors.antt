@@ -14,7 +14,7 @@ use Rattle.rules.specs.Group.{changed, directed, groupLine, groupLines, room, b
 use Rattle.rules.specs.Hour.{numbers, internalAt, share, shared, rest, group, groups, reconstructed, cellsOf, answer}
 use Rattle.rules.specs.Fields.{byteAt, run, numberAt, digitsIn, digits, escape, unescape, closing, labelEnd, allCharacters, isLabel, spacedNumber, spacedLabel, basisAt, spacedBasis}
 use Rattle.rules.specs.Lines.{fieldsAt, seen, written, ranged, labelled, letterOf, placesAt, lineAt, lineText}
-use Rattle.rules.specs.Record.{labelOf, started, body}
+use Rattle.rules.specs.Record.{started, body}
 use Rattle.rules.specs.Reading.{taken, feed, headed, finished, linesFrom, reading}
 use Rattle.rules.specs.Writing.{texts, deckText, sameBy, sameHour, allLabelled, given, valid}
 use Rattle.rules.specs.Calls.{reconstruction, leaves}

@@ -12,7 +12,7 @@ use mir.Val.{SFits, toZ, ofZ}
 use Rattle.rules.specs.Group.{Amount, signed, upTo}
 use Rattle.rules.specs.Hour.{member, scheduled, counted, share}
 use Rattle.rules.specs.Sequences.{noDelivery}
-use Rattle.rules.specs.Words.{if_then_else_, sumTo}
+use Rattle.rules.specs.Words.{sumTo}
 use Rattle.rules.specs.declared.Hour.{Hour}
 use Rattle.rules.specs.declared.InternalSequence.{InternalSequence}
 

@@ -1,7 +1,7 @@
 -- The steps of reading a label's characters out of its own bytes.
 use mathlib.Core.Path.{_≡_, refl, ap, sym, _∙_}
 use mathlib.Core.Bool.{Bool, true, false}
-use mathlib.Core.List.{List, [], _∷_, _++_}
+use mathlib.Core.List.{List, [], _∷_}
 use Prim.Native.Nat.{ℕ, zero, suc, _+_, _-_, _<_, _≤_}
 use native.Mathlib.Numerals.{add-one}
 use native.Mathlib.Omega.{arith}
@@ -12,7 +12,6 @@ use Rattle.rules.specs.Words.{if_then_else_}
 use Rattle.rules.specs.Fields as fields
 use Rattle.rules.specs.Fields.{byte, unescape, Chars}
 use Rattle.rules.specs.Record.{labelOf}
-use Rattle.rules.specs.declared.Label.{Label}
 use Rattle.text.specs.Answers.{characterAt}
 
 pub unescape-end : (t : List ℕ) (i : ℕ) → length t ≤ i → unescape false (drop i t) ≡ []

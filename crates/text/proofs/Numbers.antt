@@ -6,7 +6,7 @@ use Prim.Native.Nat.{ℕ, suc, _+_, _-_, _*_, _<_, _≤_}
 use native.Mathlib.Numerals.{add-one}
 use native.Mathlib.Omega.{arith}
 use lib.ListN.{drop}
-use borrow.Author.Tests.{eq-eqb, ne-eqb}
+use borrow.Author.Tests.{ne-eqb}
 use Rattle.rules.specs.Words.{if_then_else_}
 use Rattle.rules.specs.Fields as fields
 use Rattle.rules.specs.Fields.{Field, got, malformed, byte, isDigit, run, numberAt, basisFrom, basisAt}
@@ -18,7 +18,7 @@ use Rattle.text.specs.declared.NumberField.{NumberField}
 use Rattle.text.specs.declared.NumberField.the-variants.{Number, Malformed as NoNumber}
 use Rattle.text.specs.declared.BasisField.{BasisField}
 use Rattle.text.specs.declared.BasisField.the-variants.{Basis as IsBasis, Malformed as NoBasis}
-use Rattle.text.proofs.Bytes.{drop-byte, byte-inside}
+use Rattle.text.proofs.Bytes.{drop-byte}
 
 -- numbers that are cut alike read on alike
 run-cut : (l : List ℕ) (v w i : ℕ) → cut v ≡ cut w → numberField (run v i l) ≡ numberField (run w i l)

@@ -3,9 +3,6 @@ use Prim.Native.Nat.{_≤_, _-_}
 use borrow.Author.Needs.{needs}
 use Rattle.frames.proofs.deck_head.Statement.{statement}
 use Rattle.frames.proofs.deck_head.Tie as tie
-use Rattle.frames.proofs.deck_head.Reads as reads
-use Rattle.frames.proofs.deck_head.Lts as lts
-use Rattle.frames.proofs.size_at.Reads as size-at-reads
 
 abbrev Inv-loop : tie.InvT-loop
 Inv-loop s word i₀ i = i ≤ 5

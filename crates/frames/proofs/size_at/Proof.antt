@@ -4,11 +4,6 @@ use lib.ListN.{length}
 use borrow.Author.Needs.{needs}
 use Rattle.frames.proofs.size_at.Statement.{statement}
 use Rattle.frames.proofs.size_at.Tie as tie
-use Rattle.frames.proofs.size_at.Reads as reads
-use Rattle.frames.proofs.size_at.Lts as lts
-use Rattle.frames.proofs.digit.Reads as digit-reads
-use Rattle.frames.proofs.is_digit.Reads as is-digit-reads
-use Rattle.frames.proofs.leads.Reads as leads-reads
 
 abbrev Inv-loop : tie.InvT-loop
 Inv-loop s at size₀ i₀ size i = size < 2_000_000_000_000_000_000

@@ -5,8 +5,6 @@ use lib.ListN.{length}
 use borrow.Author.Needs.{needs}
 use Rattle.frames.proofs.to_front.Statement.{statement}
 use Rattle.frames.proofs.to_front.Tie as tie
-use Rattle.frames.proofs.to_front.Reads as reads
-use Rattle.frames.proofs.to_front.Lts as lts
 
 abbrev Inv-loop : tie.InvT-loop
 Inv-loop window₀ from have i₀ window i = (from ≤ i) × (length window ≡ length window₀)

@@ -4,9 +4,6 @@ use Rattle.lines.proofs.Chains.{curve-chain}
 use borrow.Author.Needs.{needs}
 use Rattle.lines.proofs.curve_at.Statement.{statement}
 use Rattle.lines.proofs.curve_at.Tie as tie
-use Rattle.lines.proofs.curve_at.Reads as reads
-use Rattle.lines.proofs.curve_at.Lts as lts
-use Rattle.text.proofs.spaced_number.Reads as spaced-number-reads
 
 -- src/lib.rt:73:38
 spaced-number-requires : tie.Need-spaced-number-requires

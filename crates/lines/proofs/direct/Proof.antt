@@ -4,12 +4,6 @@ use Rattle.lines.proofs.Chains.{direct-chain}
 use borrow.Author.Needs.{needs}
 use Rattle.lines.proofs.direct.Statement.{statement}
 use Rattle.lines.proofs.direct.Tie as tie
-use Rattle.lines.proofs.direct.Reads as reads
-use Rattle.lines.proofs.direct.Lts as lts
-use Rattle.text.proofs.byte.Reads as byte-reads
-use Rattle.text.proofs.spaced_basis.Reads as spaced-basis-reads
-use Rattle.text.proofs.spaced_label.Reads as spaced-label-reads
-use Rattle.text.proofs.spaced_number.Reads as spaced-number-reads
 
 -- src/lib.rt:181:39
 spaced-basis-requires : tie.Need-spaced-basis-requires

@@ -4,10 +4,6 @@ use Rattle.lines.proofs.Chains.{head-chain}
 use borrow.Author.Needs.{needs}
 use Rattle.lines.proofs.head.Statement.{statement}
 use Rattle.lines.proofs.head.Tie as tie
-use Rattle.lines.proofs.head.Reads as reads
-use Rattle.lines.proofs.head.Lts as lts
-use Rattle.text.proofs.byte.Reads as byte-reads
-use Rattle.text.proofs.spaced_number.Reads as spaced-number-reads
 
 -- src/lib.rt:60:42
 spaced-number-requires : tie.Need-spaced-number-requires

@@ -4,11 +4,6 @@ use Rattle.lines.proofs.Chains.{purchase-chain}
 use borrow.Author.Needs.{needs}
 use Rattle.lines.proofs.purchase.Statement.{statement}
 use Rattle.lines.proofs.purchase.Tie as tie
-use Rattle.lines.proofs.purchase.Reads as reads
-use Rattle.lines.proofs.purchase.Lts as lts
-use Rattle.text.proofs.byte.Reads as byte-reads
-use Rattle.text.proofs.spaced_label.Reads as spaced-label-reads
-use Rattle.text.proofs.spaced_number.Reads as spaced-number-reads
 
 -- src/lib.rt:124:37
 spaced-number-requires : tie.Need-spaced-number-requires

@@ -4,12 +4,6 @@ use Rattle.lines.proofs.Chains.{unit-chain}
 use borrow.Author.Needs.{needs}
 use Rattle.lines.proofs.unit.Statement.{statement}
 use Rattle.lines.proofs.unit.Tie as tie
-use Rattle.lines.proofs.unit.Reads as reads
-use Rattle.lines.proofs.unit.Lts as lts
-use Rattle.lines.proofs.curve_at.Reads as curve-at-reads
-use Rattle.text.proofs.byte.Reads as byte-reads
-use Rattle.text.proofs.spaced_label.Reads as spaced-label-reads
-use Rattle.text.proofs.spaced_number.Reads as spaced-number-reads
 
 -- src/lib.rt:94:38
 spaced-number-requires : tie.Need-spaced-number-requires

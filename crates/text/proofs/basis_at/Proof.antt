@@ -7,10 +7,6 @@ use Rattle.text.proofs.Numbers.{basis-number}
 use borrow.Author.Needs.{needs}
 use Rattle.text.proofs.basis_at.Statement.{statement}
 use Rattle.text.proofs.basis_at.Tie as tie
-use Rattle.text.proofs.basis_at.Reads as reads
-use Rattle.text.proofs.basis_at.Lts as lts
-use Rattle.text.proofs.number.Reads as number-reads
-use Rattle.text.proofs.peek.Reads as peek-reads
 
 -- src/lib.rt:151:9
 peek-requires : tie.Need-peek-requires

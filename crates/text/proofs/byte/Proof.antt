@@ -7,8 +7,6 @@ use Rattle.text.proofs.Tests.{tests}
 use borrow.Author.Needs.{needs}
 use Rattle.text.proofs.byte.Statement.{statement}
 use Rattle.text.proofs.byte.Tie as tie
-use Rattle.text.proofs.byte.Reads as reads
-use Rattle.text.proofs.byte.Lts as lts
 
 -- src/lib.rt:62:9
 returns : tie.Need-returns

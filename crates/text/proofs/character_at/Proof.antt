@@ -3,8 +3,6 @@ use Rattle.text.proofs.Tests.{tests}
 use borrow.Author.Needs.{needs}
 use Rattle.text.proofs.character_at.Statement.{statement}
 use Rattle.text.proofs.character_at.Tie as tie
-use Rattle.text.proofs.character_at.Reads as reads
-use Rattle.text.proofs.character_at.Lts as lts
 
 -- src/lib.rt:265:8
 shared-slice-read-if1 : tie.Need-shared-slice-read-if1

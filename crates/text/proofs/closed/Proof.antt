@@ -2,8 +2,6 @@
 use Rattle.text.proofs.Tests.{tests}
 use Rattle.text.proofs.closed.Statement.{statement}
 use Rattle.text.proofs.closed.Tie as tie
-use Rattle.text.proofs.closed.Reads as reads
-use Rattle.text.proofs.closed.Lts as lts
 
 -- src/lib.rt:207:9
 returns : tie.Need-returns

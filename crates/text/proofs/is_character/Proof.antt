@@ -2,8 +2,6 @@
 use Rattle.text.proofs.Tests.{tests}
 use Rattle.text.proofs.is_character.Statement.{statement}
 use Rattle.text.proofs.is_character.Tie as tie
-use Rattle.text.proofs.is_character.Reads as reads
-use Rattle.text.proofs.is_character.Lts as lts
 
 -- src/lib.rt:181:9
 returns : tie.Need-returns

@@ -2,8 +2,6 @@
 use Rattle.text.proofs.Tests.{tests}
 use Rattle.text.proofs.is_digit.Statement.{statement}
 use Rattle.text.proofs.is_digit.Tie as tie
-use Rattle.text.proofs.is_digit.Reads as reads
-use Rattle.text.proofs.is_digit.Lts as lts
 
 -- src/lib.rt:77:9
 returns : tie.Need-returns

@@ -2,8 +2,6 @@
 use Rattle.text.proofs.Tests.{tests}
 use Rattle.text.proofs.is_escaped.Statement.{statement}
 use Rattle.text.proofs.is_escaped.Tie as tie
-use Rattle.text.proofs.is_escaped.Reads as reads
-use Rattle.text.proofs.is_escaped.Lts as lts
 
 -- src/lib.rt:194:9
 returns : tie.Need-returns

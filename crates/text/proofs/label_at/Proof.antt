@@ -10,9 +10,6 @@ use Rattle.text.proofs.Characters.{Filled, filled-none, filled-room, fi
 use borrow.Author.Needs.{needs}
 use Rattle.text.proofs.label_at.Statement.{statement}
 use Rattle.text.proofs.label_at.Tie as tie
-use Rattle.text.proofs.label_at.Reads as reads
-use Rattle.text.proofs.label_at.Lts as lts
-use Rattle.text.proofs.character_at.Reads as character-at-reads
 
 abbrev Inv-loop : tie.InvT-loop
 Inv-loop part bytes₀ n₀ i₀ bytes n i = (length bytes ≡ 16) × Filled part bytes n i

@@ -13,12 +13,6 @@ use Rattle.text.proofs.Numbers.{digit-inside, number-none, number-zeros
 use borrow.Author.Needs.{needs}
 use Rattle.text.proofs.number.Statement.{statement}
 use Rattle.text.proofs.number.Tie as tie
-use Rattle.text.proofs.number.Reads as reads
-use Rattle.text.proofs.number.Lts as lts
-use Rattle.text.proofs.is_digit.Reads as is-digit-reads
-use Rattle.text.proofs.peek.Reads as peek-reads
-use Rattle.text.proofs.run_on.Reads as run-on-reads
-use Rattle.text.proofs.wide.Reads as wide-reads
 
 first : (c : tie.Else1) → isDigit (getD (c .before .before .before .before .args .s .now) (c .before .before .before .before .args .at) 0) ≡ true
 first c = ap isDigit (sym (c .before .before .peek .ensures)) ∙ sym (c .before .is-digit .ensures) ∙ not-false _ (c .if1 .left)

@@ -4,8 +4,6 @@ use lib.ListN.{List·getD-eq-default}
 use borrow.Author.Needs.{needs}
 use Rattle.text.proofs.peek.Statement.{statement}
 use Rattle.text.proofs.peek.Tie as tie
-use Rattle.text.proofs.peek.Reads as reads
-use Rattle.text.proofs.peek.Lts as lts
 
 -- src/lib.rt:51:9
 returns : tie.Need-returns

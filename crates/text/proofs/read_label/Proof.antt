@@ -12,12 +12,6 @@ use Rattle.text.proofs.Labels.{escaped-inside, label-quoted, label-unqu
 use borrow.Author.Needs.{needs}
 use Rattle.text.proofs.read_label.Statement.{statement}
 use Rattle.text.proofs.read_label.Tie as tie
-use Rattle.text.proofs.read_label.Reads as reads
-use Rattle.text.proofs.read_label.Lts as lts
-use Rattle.text.proofs.closed.Reads as closed-reads
-use Rattle.text.proofs.is_character.Reads as is-character-reads
-use Rattle.text.proofs.is_escaped.Reads as is-escaped-reads
-use Rattle.text.proofs.peek.Reads as peek-reads
 
 abbrev Inv-loop : tie.InvT-loop
 Inv-loop part n₀ i₀ n i = (n ≤ i) × (closing false n i (drop i part) ≡ labelEnd part)

@@ -12,11 +12,6 @@ use Rattle.text.specs.Answers.{numberField}
 use borrow.Author.Needs.{needs}
 use Rattle.text.proofs.run_on.Statement.{statement}
 use Rattle.text.proofs.run_on.Tie as tie
-use Rattle.text.proofs.run_on.Reads as reads
-use Rattle.text.proofs.run_on.Lts as lts
-use Rattle.text.proofs.cut_at.Reads as cut-at-reads
-use Rattle.text.proofs.is_digit.Reads as is-digit-reads
-use Rattle.text.proofs.wide.Reads as wide-reads
 
 abbrev Inv-loop : tie.InvT-loop
 Inv-loop s at before v₀ i₀ v i = (v ≤ 1_000_000) × (numberField (run v i (drop i s)) ≡ numberField (run before at (drop at s)))

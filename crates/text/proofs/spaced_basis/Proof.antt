@@ -7,10 +7,6 @@ use Rattle.text.proofs.Bytes.{after-at, after-missing}
 use borrow.Author.Needs.{needs}
 use Rattle.text.proofs.spaced_basis.Statement.{statement}
 use Rattle.text.proofs.spaced_basis.Tie as tie
-use Rattle.text.proofs.spaced_basis.Reads as reads
-use Rattle.text.proofs.spaced_basis.Lts as lts
-use Rattle.text.proofs.basis_at.Reads as basis-at-reads
-use Rattle.text.proofs.byte.Reads as byte-reads
 
 -- src/lib.rt:168:23
 byte-requires : tie.Need-byte-requires

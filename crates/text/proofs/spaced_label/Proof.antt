@@ -13,10 +13,6 @@ use Rattle.text.proofs.Labels.{part-closed, part-unclosed, part-inside}
 use borrow.Author.Needs.{needs}
 use Rattle.text.proofs.spaced_label.Statement.{statement}
 use Rattle.text.proofs.spaced_label.Tie as tie
-use Rattle.text.proofs.spaced_label.Reads as reads
-use Rattle.text.proofs.spaced_label.Lts as lts
-use Rattle.text.proofs.byte.Reads as byte-reads
-use Rattle.text.proofs.read_label.Reads as read-label-reads
 
 abbrev label-at : List ℕ → ℕ → Field Place
 label-at s d = labelFrom d (labelEnd (drop d s))

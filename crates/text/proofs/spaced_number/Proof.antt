@@ -7,10 +7,6 @@ use Rattle.text.proofs.Bytes.{after-at, after-missing}
 use borrow.Author.Needs.{needs}
 use Rattle.text.proofs.spaced_number.Statement.{statement}
 use Rattle.text.proofs.spaced_number.Tie as tie
-use Rattle.text.proofs.spaced_number.Reads as reads
-use Rattle.text.proofs.spaced_number.Lts as lts
-use Rattle.text.proofs.byte.Reads as byte-reads
-use Rattle.text.proofs.number.Reads as number-reads
 
 -- src/lib.rt:139:23
 byte-requires : tie.Need-byte-requires

@@ -1,5 +1,5 @@
 -- 15 by the test of the record, and 14 by the writer of a valid one.
-use mathlib.Core.Bool.{Bool, true, false, not}
+use mathlib.Core.Bool.{Bool, true, false}
 use mathlib.Core.List.{List}
 use mathlib.Core.Path.{_≡_, refl, ap, sym, _∙_}
 use Prim.Native.Nat.{ℕ}
@@ -20,10 +20,6 @@ use Rattle.writer.specs.declared.Written.the-variants.{Bytes, Refused}
 use borrow.Author.Needs.{needs}
 use Rattle.writer.proofs.write.Statement.{statement}
 use Rattle.writer.proofs.write.Tie as tie
-use Rattle.writer.proofs.write.Reads as reads
-use Rattle.writer.proofs.write.Lts as lts
-use Rattle.put.proofs.write_valid.Reads as write-valid-reads
-use Rattle.record.proofs.valid.Reads as valid-reads
 
 module _ (h : Hour) (out : List ℕ) where
   no-deck : valid h ≡ false → (Refused NoDeck ≡ writtenOf (writing h (length out))) × (out ≡ leaves (writing h (length out)) out)

@@ -1,15 +1,12 @@
 -- Each way out by the tests met on it: the first number outside its range refuses.
 use Rattle.rules.proofs.HeatCurve.new.Statement.{statement}
 use Rattle.rules.proofs.HeatCurve.new.Tie as tie
-use Rattle.rules.proofs.HeatCurve.new.Reads as reads
-use Rattle.rules.proofs.HeatCurve.new.Lts as lts
 use Prim.Native.Nat.{ℕ, _≤_, _<_}
-use mathlib.Core.Bool.{true, false, _&&_}
-use mathlib.Core.Path.{_≡_, refl}
+use mathlib.Core.Path.{_≡_}
 use native.Mathlib.Omega.{arith}
 use Rattle.rules.specs.Answers.{curveAnswer}
-use Rattle.rules.specs.Ranges.{inside, unitLevel, coefficientA, coefficientB, coefficientC, heatRate}
-use Rattle.rules.specs.Units.{curveMade, curveInside}
+use Rattle.rules.specs.Ranges.{unitLevel, coefficientA, coefficientB, coefficientC, heatRate}
+use Rattle.rules.specs.Units.{curveMade}
 use Rattle.rules.specs.declared.HeatCurve.{HeatCurve}
 use Rattle.rules.specs.declared.CurveAnswer.{CurveAnswer}
 use Rattle.rules.specs.declared.CurveAnswer.the-variants.{Made, Refused}

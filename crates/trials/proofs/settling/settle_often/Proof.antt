@@ -7,7 +7,6 @@ use borrow.Author.Needs.{needs}
 use borrow.Author.Tests.{not-false}
 use Rattle.accounts.specs.ValidHour.{valid-balances, valid-small, valid-levels}
 use Rattle.balance.specs.HourBalances.{plantAt}
-use Rattle.merit.specs.LevelNeverBelowB.{stateAt}
 use Rattle.roundtrip.specs.GivenHour.{valid-given}
 use Rattle.rules.specs.Group.{opened}
 use Rattle.rules.specs.Record.{noSource}
