@@ -11,7 +11,11 @@
 #include "hour.h"
 #include "report.h"
 
-enum { DECK = 8192, TURNS = 101 };
+/* Of crate trials: reads the deck once and reconstructs its hour `times` times; a sum of the answers, 0 where the deck is refused. */
+uint64_t trial_price(const uint8_t *deck, size_t n, int64_t *out, size_t room, size_t times);
+uint64_t trial_plain(const uint8_t *deck, size_t n, int64_t *out, size_t room, size_t times);
+
+enum { DECK = 8192, TURNS = 101, MOST_WORKS = 32, CALLS = 8 };
 
 static uint8_t deck[DECK];
 static size_t size;
@@ -23,6 +27,12 @@ static uint64_t proved_read(void) { return barleyhood_check(deck, size); }
 static uint64_t proved_price(void) { return barleyhood_price(deck, size, cells, MOST_CELLS) + (uint64_t)cells[0]; }
 static uint64_t proved_plain(void) { return barleyhood_plain(deck, size, cells, MOST_CELLS) + (uint64_t)cells[0]; }
 static uint64_t proved_report(void) { return barleyhood_report(deck, size, text, MOST_REPORT); }
+
+/* The proved side reads the deck in the same call: from record to cells is the time of CALLS + 1 hours less that of one, by CALLS. */
+static uint64_t proved_prices(void) { return trial_price(deck, size, cells, MOST_CELLS, CALLS + 1) + (uint64_t)cells[0]; }
+static uint64_t proved_one_price(void) { return trial_price(deck, size, cells, MOST_CELLS, 1) + (uint64_t)cells[0]; }
+static uint64_t proved_plains(void) { return trial_plain(deck, size, cells, MOST_CELLS, CALLS + 1) + (uint64_t)cells[0]; }
+static uint64_t proved_one_plain(void) { return trial_plain(deck, size, cells, MOST_CELLS, 1) + (uint64_t)cells[0]; }
 
 typedef struct refusal reader(const uint8_t *s, size_t n, struct hour *h);
 typedef struct refusal rebuilder(const struct hour *h, int64_t *cells, size_t room, int by_price);
@@ -48,6 +58,26 @@ static uint64_t quick_c_price(void) { return c_cells(read_deck, reconstruct, 1);
 static uint64_t quick_c_plain(void) { return c_cells(read_deck, reconstruct, 0); }
 static uint64_t quick_c_report(void) { return report(deck, size, text, MOST_REPORT); }
 
+/* Hours read before, each by its own reader. */
+static struct hour plain_c_hour, quick_c_hour;
+
+static void read_hours(void) {
+    memset(&plain_c_hour, 0, sizeof plain_c_hour);
+    memset(&quick_c_hour, 0, sizeof quick_c_hour);
+    read_plainly(deck, size, &plain_c_hour);
+    read_deck(deck, size, &quick_c_hour);
+}
+
+static uint64_t c_rebuilt(const struct hour *h, rebuilder *rebuild, int by_price) {
+    struct refusal r = rebuild(h, cells, MOST_CELLS, by_price);
+    return r.number + (uint64_t)cells[0];
+}
+
+static uint64_t plain_c_record_price(void) { return c_rebuilt(&plain_c_hour, reconstruct_plainly, 1); }
+static uint64_t plain_c_record_plain(void) { return c_rebuilt(&plain_c_hour, reconstruct_plainly, 0); }
+static uint64_t quick_c_record_price(void) { return c_rebuilt(&quick_c_hour, reconstruct, 1); }
+static uint64_t quick_c_record_plain(void) { return c_rebuilt(&quick_c_hour, reconstruct, 0); }
+
 static double now(void) {
     struct timespec t;
     clock_gettime(CLOCK_MONOTONIC, &t);
@@ -66,7 +96,7 @@ static double once(work *w, int repeats) {
 
 /* The least time of each over many turns, taken in turn. */
 static void in_turn(int n, work *const *w, double *least) {
-    int repeats[16];
+    int repeats[MOST_WORKS];
     for (int k = 0; k < n; k++) {
         repeats[k] = (int)(2e5 / (once(w[k], 3) + 1)) + 1;
         least[k] = 1e18;
@@ -80,8 +110,12 @@ static void in_turn(int n, work *const *w, double *least) {
 
 /* Every reconstruction must leave the same cells. */
 static void hold_cells(void) {
-    static work *const w[] = {proved_price, proved_plain, plain_c_price, plain_c_plain, quick_c_price, quick_c_plain};
+    static work *const w[] = {
+        proved_price,     plain_c_price,        quick_c_price,        proved_plain,  plain_c_plain,    quick_c_plain,        proved_prices,
+        proved_one_price, plain_c_record_price, quick_c_record_price, proved_plains, proved_one_plain, plain_c_record_plain, quick_c_record_plain,
+    };
     static int64_t first[MOST_CELLS];
+    read_hours();
     for (size_t k = 0; k < sizeof w / sizeof *w; k++) {
         memset(cells, 0, sizeof cells);
         w[k]();
@@ -103,9 +137,15 @@ static void row(const char *name, double proved, double plain_c, double quick_c)
 }
 
 static void table(const char *name) {
-    static work *const w[] = {proved_read,  plain_c_read,  quick_c_read,  proved_price,  plain_c_price, quick_c_price,
-                              proved_plain, plain_c_plain, quick_c_plain, proved_report, quick_c_report};
-    double t[sizeof w / sizeof *w], *read = t, *price = t + 3, *plain = t + 6, *printed = t + 9;
+    static work *const w[] = {
+        proved_read,   plain_c_read,     quick_c_read,
+        proved_price,  plain_c_price,    quick_c_price,
+        proved_plain,  plain_c_plain,    quick_c_plain,
+        proved_prices, proved_one_price, plain_c_record_price, quick_c_record_price,
+        proved_plains, proved_one_plain, plain_c_record_plain, quick_c_record_plain,
+        proved_report, quick_c_report,
+    };
+    double t[sizeof w / sizeof *w], *read = t, *price = t + 3, *plain = t + 6, *record_price = t + 9, *record_plain = t + 13, *printed = t + 17;
     FILE *f = fopen(name, "rb");
     if (!f) {
         perror(name);
@@ -118,8 +158,9 @@ static void table(const char *name) {
     printf("\n%s, %zu bytes:\n\n| work | proved, ns | plain C, ns | ratio | C for speed, ns | ratio |\n|---|---|---|---|---|---|\n", name, size);
     row("reading", read[0], read[1], read[2]);
     row("deck to cells, by price", price[0], price[1], price[2]);
-    row("record to cells, by price: difference of the two rows above", price[0] - read[0], price[1] - read[1], price[2] - read[2]);
     row("deck to cells, one MWh at a time", plain[0], plain[1], plain[2]);
+    row("record to cells, by price", (record_price[0] - record_price[1]) / CALLS, record_price[2], record_price[3]);
+    row("record to cells, one MWh at a time", (record_plain[0] - record_plain[1]) / CALLS, record_plain[2], record_plain[3]);
     row("deck to report", printed[0], 0, printed[1]);
 }
 

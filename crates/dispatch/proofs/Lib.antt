@@ -3,4 +3,5 @@ mod Lead
 mod Levels
 mod Places
 mod RivalsSuffice
+mod Scaling
 mod Taking

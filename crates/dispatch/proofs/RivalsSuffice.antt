@@ -7,10 +7,13 @@ use Prim.Native.Nat.{ℕ, zero, suc, _+_, _*_, _-_, _≤_, _<_}
 use native.Mathlib.Decide.{decLt, ℕ-discrete}
 use native.Mathlib.Nat.{mul-le-mul-left}
 use native.Mathlib.Omega.{arith}
+use lib.ListN.{set, replicate, length-set}
+use lib.Seq.{getD-set-same, getD-set-other}
+use Rattle.dispatch.proofs.Taking.{zeros}
 use Rattle.dispatch.specs.Rivals.{Alone, Rivals, Gathered, Spread}
-use Rattle.dispatch.specs.Taken.{First, merit, Taken}
-use Rattle.laws.specs.Sums.{sumTo-part}
-use Rattle.marks.specs.Lines.{at, Table}
+use Rattle.dispatch.specs.Taken.{First, merit, Sources, Taken}
+use Rattle.laws.specs.Sums.{sumTo-but, sumTo-part, sumTo-zero}
+use Rattle.marks.specs.Lines.{at}
 use Rattle.merit.specs.Settled.{more, Beats}
 use Rattle.rules.specs.Words as Words
 use Rattle.rules.specs.Words.{sumTo}
@@ -47,12 +50,12 @@ over-bar {up} {one} {step} {cap} {t} {n} {total} {bar} {b} s a i k l h = elim (�
 pub alone-room : {one step cap : List ℕ} {n total bar : ℕ} → (i : ℕ) × Alone one step cap n total bar i → total ≤ sumTo (at cap) n
 alone-room {cap = cap} {n = n} (i, s) = omega (arith, s .room, sumTo-part (at cap) n i (s .in-range))
 
-module _ {bar n m : ℕ} {one step span inv cap places os ds cs : List ℕ} (table : Table one step span inv cap n) (r : Rivals bar one n places m)
+module _ {bar n m : ℕ} {one step cap places os ds cs : List ℕ} (sources : Sources one step cap n) (r : Rivals bar one n places m)
     (o : Gathered one places m os) (d : Gathered step places m ds) (c : Gathered cap places m cs) where
-  pub rivals-table : {ws vs : List ℕ} → Gathered span places m ws → Gathered inv places m vs → Table os ds ws vs cs m
-  rivals-table w v = record {
-    n-small = omega (arith, r .placed .few, table .n-small);
-    source = λ k l. rw (o .same k l, d .same k l, w .same k l, v .same k l, c .same k l) (table .source (at places k) (r .placed .below k l));
+  pub rivals-sources : Sources os ds cs m
+  rivals-sources = record {
+    n-small = omega (arith, r .placed .few, sources .n-small);
+    falls = λ k l. rw (o .same k l, d .same k l, c .same k l) (sources .falls (at places k) (r .placed .below k l));
   }
 
   -- the source with room for the total is one of them
@@ -108,7 +111,7 @@ module _ {bar n m : ℕ} {one step span inv cap places os ds cs : List ℕ} (tab
                 | yes z ↦ (
                     let top = over-bar (alone .1) a (p .0) k (p .1) (omega (arith, s .same (p .0) (p .1), ap (at t) (p .2))) in
                     let key : merit os ds (p .0) k ≡ merit one step i k = same-merit i (p .0) k (p .1) (p .2) in
-                    inl (omega (arith, top, key, table .source j lj .falls .height l lc)))
+                    inl (omega (arith, top, key, sources .falls j lj .height l lc)))
                 | no z ↦ (
                     let q = r .every j lj (omega arith) in
                     between i j (p .0) (q .0) k l (p .1) (q .1) (p .2) (q .2) ne kt tl lc)
@@ -116,3 +119,53 @@ module _ {bar n m : ℕ} {one step span inv cap places os ds cs : List ℕ} (tab
         ];
       };
     }
+
+-- where one source alone reaches the bar, it gives the total
+module _ {one step cap places : List ℕ} {n total bar : ℕ} (sources : Sources one step cap n) (r : Rivals bar one n places 1) (some : 0 < bar) (x : (i : ℕ) × Alone one step cap n total bar i) where
+  alone : Alone one step cap n total bar (at places 0)
+  alone =
+      let p = r .every (x .0) (x .1 .in-range) (omega (arith, x .1 .last)) in
+      let e : 0 ≡ p .0 = omega (arith, p .1) in
+      let d : at places 0 ≡ x .0 = ap (at places) e ∙ p .2 in
+      rw d (x .1)
+
+  others-below : (j : ℕ) → j < n → j ≢ at places 0 → at one j < bar
+  others-below j l ne = elim (decLt (at one j) bar) [
+    | yes y ↦ y
+    | no y ↦ (
+        let p = r .every j l (omega arith) in
+        let e : p .0 ≡ 0 = omega (arith, p .1) in
+        absurd (ne (sym (p .2) ∙ ap (at places) e)))
+  ]
+
+  here : at (set (replicate 32 0) (at places 0) total) (at places 0) ≡ total
+  here = getD-set-same (replicate 32 0) (at places 0) total 0 (omega (arith, alone .in-range, sources .n-small))
+
+  kept : (j : ℕ) → j ≢ at places 0 → at (set (replicate 32 0) (at places 0) total) j ≡ 0
+  kept j ne = getD-set-other (replicate 32 0) (at places 0) j total 0 ne ∙ zeros j
+
+  pub alone-taken : {up : Bool} → Taken up one step cap n total (set (replicate 32 0) (at places 0) total)
+  alone-taken = record {
+    long = length-set (replicate 32 0) (at places 0) total;
+    beyond = λ j l. kept j (λ e. omega (arith, alone .in-range));
+    adds = omega (
+      arith,
+      sumTo-but n (at (replicate 32 0)) (at (set (replicate 32 0) (at places 0) total)) (at places 0) (alone .in-range) (λ j l ne. kept j ne ∙ sym (zeros j)),
+      sumTo-zero n (at (replicate 32 0)) (λ j l. zeros j),
+      zeros (at places 0),
+      here,
+    );
+    settled = record {
+      fits = λ i l. elim (ℕ-discrete i (at places 0)) [
+        | yes e ↦ rw e (omega (arith, here, alone .room))
+        | no ne ↦ omega (arith, kept i ne)
+      ];
+      order = λ i j k l li lj ne kt tl lc. elim (ℕ-discrete i (at places 0)) [
+        | no d ↦ absurd (omega (arith, kept i d))
+        | yes e ↦ (
+            let kl : k ≤ total - 1 = omega (arith, here, ap (at (set (replicate 32 0) (at places 0) total)) e) in
+            let top : bar - 1 ≤ merit one step i k = rw e (omega (arith, alone .last, mul-le-mul-left (at step (at places 0)) kl)) in
+            inl (omega (arith, top, others-below j lj (λ d. ne (e ∙ sym d)), sources .falls j lj .height l lc)))
+      ];
+    };
+  }

@@ -5,7 +5,7 @@ use mathlib.Core.Path.{_≡_, refl, _∙_}
 use Prim.Native.Nat.{ℕ, _+_, _*_, _-_, _^_, _≤_, _<_}
 use native.Mathlib.Nat.{mul-le-mul, mul-le-mul-left}
 use native.Mathlib.Omega.{arith}
-use Rattle.marks.specs.Lines.{Falls, Source}
+use Rattle.marks.specs.Lines.{Falls}
 use Rattle.merit.specs.PricesRise as PricesRise
 use Rattle.merit.specs.PricesRise.{price, curvePrice}
 use Rattle.rules.specs.declared.Plant.the-variants.{Unit as U, Purchase as P, Fixed as F}
@@ -31,8 +31,8 @@ worth false x = x
 worth true x = 2 ^ 48 - x
 
 -- the line of a source whose m-th MWh costs f m
-pub record Lined (up : Bool) (f : ℕ → ℕ) (level one step span inv cap : ℕ) : Type 0 where
-  pub source : Source one step span inv cap
+pub record Lined (up : Bool) (f : ℕ → ℕ) (level one step cap : ℕ) : Type 0 where
+  pub falls : Falls one step cap
   pub merits : (k : ℕ) → k < cap → one - (step * k + 1) ≡ worth up (priceOf up f level k)
   pub prices : (k : ℕ) → k < cap → priceOf up f level k ≤ 2 ^ 48
 
@@ -51,14 +51,14 @@ unfolding linePrice
 fixed-price g m = omega arith
 
 -- the same prices in other words
-pub lined-as : (up : Bool) (f g : ℕ → ℕ) (level one step span inv cap : ℕ) → ((m : ℕ) → f m ≡ g m) → Lined up f level one step span inv cap → Lined up g level one step span inv cap
-lined-as false f g level one step span inv cap h s = record {
-  source = s .source;
+pub lined-as : (up : Bool) (f g : ℕ → ℕ) (level one step cap : ℕ) → ((m : ℕ) → f m ≡ g m) → Lined up f level one step cap → Lined up g level one step cap
+lined-as false f g level one step cap h s = record {
+  falls = s .falls;
   merits = λ k l. s .merits k l ∙ h (level - k);
   prices = λ k l. omega (arith, s .prices k l, h (level - k));
 }
-lined-as true f g level one step span inv cap h s = record {
-  source = s .source;
+lined-as true f g level one step cap h s = record {
+  falls = s .falls;
   merits = λ k l. omega (arith, s .merits k l, h (level + k + 1));
   prices = λ k l. omega (arith, s .prices k l, h (level + k + 1));
 }
@@ -93,7 +93,7 @@ module _ {b c r : ℕ} (s : Numbers b c r) where
         let j : level - k + k ≡ level = omega arith in
         rw j at (price-line b c r (level - k) k (omega arith))
 
-    pub down-falls : cap ≤ level → level ≤ 2000 → Falls (linePrice b c r level + 1) (2 * c * r) cap
+    down-falls : cap ≤ level → level ≤ 2000 → Falls (linePrice b c r level + 1) (2 * c * r) cap
     down-falls h m = record {
       cap-small = omega arith;
       step-small = step-small;
@@ -101,9 +101,9 @@ module _ {b c r : ℕ} (s : Numbers b c r) where
       height = λ k l. omega (arith, down-at h k l);
     }
 
-    pub down-lined : (span inv : ℕ) → cap ≤ level → level ≤ 2000 → Source (linePrice b c r level + 1) (2 * c * r) span inv cap → Lined false (linePrice b c r) level (linePrice b c r level + 1) (2 * c * r) span inv cap
-    down-lined span inv h m s = record {
-      source = s;
+    pub down-lined : cap ≤ level → level ≤ 2000 → Lined false (linePrice b c r) level (linePrice b c r level + 1) (2 * c * r) cap
+    down-lined h m = record {
+      falls = down-falls h m;
       merits = λ k l. omega (arith, down-at h k l);
       prices = λ k l. omega (arith, price-small (level - k) (omega arith));
     }
@@ -114,7 +114,7 @@ module _ {b c r : ℕ} (s : Numbers b c r) where
         let j : level + 1 + k ≡ level + k + 1 = omega arith in
         rw j at (price-line b c r (level + 1) k (omega arith))
 
-    pub up-falls : 0 < cap → level + cap ≤ 2000 → Falls (2 ^ 48 + 1 - linePrice b c r (level + 1)) (2 * c * r) cap
+    up-falls : 0 < cap → level + cap ≤ 2000 → Falls (2 ^ 48 + 1 - linePrice b c r (level + 1)) (2 * c * r) cap
     up-falls z m = record {
       cap-small = omega arith;
       step-small = step-small;
@@ -122,13 +122,17 @@ module _ {b c r : ℕ} (s : Numbers b c r) where
       height = λ k l. omega (arith, up-at k, price-small (level + k + 1) (omega arith));
     }
 
-    pub up-lined : (span inv : ℕ) → level + cap ≤ 2000 → Source (2 ^ 48 + 1 - linePrice b c r (level + 1)) (2 * c * r) span inv cap → Lined true (linePrice b c r) level (2 ^ 48 + 1 - linePrice b c r (level + 1)) (2 * c * r) span inv cap
-    up-lined span inv m s = record {
-      source = s;
+    pub up-lined : 0 < cap → level + cap ≤ 2000 → Lined true (linePrice b c r) level (2 ^ 48 + 1 - linePrice b c r (level + 1)) (2 * c * r) cap
+    up-lined z m = record {
+      falls = up-falls z m;
       merits = λ k l. omega (arith, up-at k, price-small (level + k + 1) (omega arith));
       prices = λ k l. omega (arith, price-small (level + k + 1) (omega arith));
     }
 
--- of no room, any line
-pub none-lined : (up : Bool) (f : ℕ → ℕ) (level one step span inv cap : ℕ) → cap ≡ 0 → Source one step span inv cap → Lined up f level one step span inv cap
-none-lined up f level one step span inv cap e s = record { source = s; merits = λ k l. absurd (omega arith); prices = λ k l. absurd (omega arith) }
+    -- of no room
+    pub none-lined : (up : Bool) (f : ℕ → ℕ) → cap ≡ 0 → Lined up f level 0 (2 * c * r) cap
+    none-lined up f e = record {
+      falls = record { cap-small = omega arith; step-small = step-small; one-small = omega arith; height = λ k l. absurd (omega arith) };
+      merits = λ k l. absurd (omega arith);
+      prices = λ k l. absurd (omega arith);
+    }

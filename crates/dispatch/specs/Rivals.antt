@@ -1,4 +1,4 @@
--- The sources that may have a part of the total where one of them has room for all of it, and five lists cut down to them.
+-- The sources that may have a part of the total where one of them has room for all of it, and lists cut down to them.
 use mathlib.Core.List.{List}
 use mathlib.Core.Logic.{_≢_}
 use mathlib.Core.Path.{_≡_}

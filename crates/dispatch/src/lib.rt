@@ -1,21 +1,20 @@
 // Two engines with one promise, for unloading (up is false) and credits (up is true): the total is taken of sources with room, the best MWh first.
-// A source enters as a falling line of merit, in five arrays. `plain` takes one MWh at a time; `price` leaves out sources that cannot compete, finds
+// A source enters as a falling line of merit, in three arrays. `plain` takes one MWh at a time; `price` leaves out sources that cannot compete, finds
 // a mark, takes all above it at once, and the rest by blocks. The definitions are in specs/ and in `marks`. Internal: they know no hour, and the caller gives lines and room.
 ghost use mathlib.Core.Bool.{true, false};
 ghost use mathlib.Core.Path.{_≡_};
 ghost use Prim.Native.Nat.{_+_, _*_, _≤_, _<_, _^_};
-ghost use lib.ListN.{length};
+ghost use lib.ListN.{length, replicate};
 ghost use Rattle.rules.specs.Words.{sumTo};
 ghost use Rattle.marks.specs.Lines.{at, Falls, Source, Table, Scales};
 ghost use Rattle.dispatch.specs.LinesOfPrices.{Numbers, Lined, linePrice};
 ghost use Rattle.dispatch.specs.Taken.{Sources, Taken, Next, Left, Small, Highest, Turn, Turns, Going, Level, Block, Above};
 ghost use Rattle.dispatch.specs.Rivals.{Bar, Places, Rivals, Gathered, Spread};
 
-pub struct Line {
-    pub one: u64,
-    pub step: u64,
-    pub span: u64,
-    pub inv: u64,
+// What counts the MWh of a line above a mark.
+struct Shape {
+    span: u64,
+    inv: u64,
 }
 
 // The price of the m-th MWh.
@@ -28,58 +27,34 @@ fn price_at(b: u64, c: u64, r: u64, m: u64) -> u64
 }
 
 // How far it moves with each MWh.
-fn step_of(c: u64, r: u64) -> u64
+pub fn step_of(c: u64, r: u64) -> u64
     requires { ⌜ (c ≤ 99) × (r ≤ 39_996) ⌝ }
     ensures { λ s. ⌜ s ≡ 2 * c * r ⌝ }
 {
     2 * c * r
 }
 
-fn shaped(one: u64, step: u64, cap: u64) -> Line
-    requires { ⌜ Falls one step cap ⌝ }
-    ensures { λ l. ⌜ (l .one ≡ one) × (l .step ≡ step) × Source one step (l .span) (l .inv) cap ⌝ }
-{
-    if step == 0 {
-        return Line {
-            one: one,
-            step: step,
-            span: marks::least(1, cap),
-            inv: marks::less(cap, 1) * 1099511627776,
-        };
-    }
-    Line {
-        one: one,
-        step: step,
-        span: step * cap,
-        inv: 1099511627776 / step + 1,
-    }
-}
-
-// A source's line when its level is to fall by at most cap, and when it is to rise.
-pub fn unload_line(b: u64, c: u64, r: u64, level: u64, cap: u64) -> Line
+// One more than the merit of a source's first MWh when its level is to fall by at most cap, and when it is to rise; 0 where it has none.
+pub fn unload_top(b: u64, c: u64, r: u64, level: u64, cap: u64) -> u64
     requires { ⌜ Numbers b c r ⌝ }
     requires room { ⌜ (cap ≤ level) × (level ≤ 2000) ⌝ }
-    ensures { λ l. ⌜ Lined false (linePrice b c r) level (l .one) (l .step) (l .span) (l .inv) cap ⌝ }
+    ensures { λ t. ⌜ Lined false (linePrice b c r) level t (2 * c * r) cap ⌝ }
 {
     if cap == 0 {
-        return shaped(0, 0, cap);
+        return 0;
     }
-    shaped(price_at(b, c, r, level) + 1, step_of(c, r), cap)
+    price_at(b, c, r, level) + 1
 }
 
-pub fn credit_line(b: u64, c: u64, r: u64, level: u64, cap: u64) -> Line
+pub fn credit_top(b: u64, c: u64, r: u64, level: u64, cap: u64) -> u64
     requires { ⌜ Numbers b c r ⌝ }
     requires room { ⌜ level + cap ≤ 2000 ⌝ }
-    ensures { λ l. ⌜ Lined true (linePrice b c r) level (l .one) (l .step) (l .span) (l .inv) cap ⌝ }
+    ensures { λ t. ⌜ Lined true (linePrice b c r) level t (2 * c * r) cap ⌝ }
 {
     if cap == 0 {
-        return shaped(0, 0, cap);
+        return 0;
     }
-    shaped(
-        281474976710657 - price_at(b, c, r, level + 1),
-        step_of(c, r),
-        cap,
-    )
+    281474976710657 - price_at(b, c, r, level + 1)
 }
 
 // One more than the merit of a source's next MWh; 0 where it has none.
@@ -137,19 +112,18 @@ pub fn plain(
     up: bool,
     one: &[u64; 32],
     step: &[u64; 32],
-    span: &[u64; 32],
-    inv: &[u64; 32],
     cap: &[u64; 32],
     n: usize,
     total: u64,
-) -> [u64; 32]
-    requires { ⌜ Table (now one) (now step) (now span) (now inv) (now cap) n ⌝ }
+    taken: &mut [u64; 32],
+)
+    requires { ⌜ Sources (now one) (now step) (now cap) n ⌝ }
     requires room { ⌜ total ≤ sumTo (at (now cap)) n ⌝ }
-    ensures { λ t. ⌜ Taken up (now (one .entry)) (now (step .entry)) (now (cap .entry)) n total t ⌝ }
+    requires blank { ⌜ now taken ≡ replicate 32 0 ⌝ }
+    ensures { λ _. ⌜ Taken up (now (one .entry)) (now (step .entry)) (now (cap .entry)) n total (now (taken .exit)) ⌝ }
 {
-    let mut taken: [u64; 32] = [0; 32];
     let mut left: [u64; 32] = [0; 32];
-    find_left(one, step, cap, &taken, n, &mut left);
+    find_left(one, step, cap, taken, n, &mut left);
     let mut moved: u64 = 0;
     while moved < total {
         let i = choose(up, &left, n);
@@ -159,7 +133,6 @@ pub fn plain(
         left[i] = m;
         moved += 1;
     }
-    taken
 }
 
 // What each source has at and above the mark, and one more than the merit of its next MWh.
@@ -286,15 +259,16 @@ fn take_best(
     cap: &[u64; 32],
     n: usize,
     total: u64,
-) -> [u64; 32]
+    taken: &mut [u64; 32],
+)
     requires { ⌜ Table (now one) (now step) (now span) (now inv) (now cap) n ⌝ }
     requires room { ⌜ total ≤ sumTo (at (now cap)) n ⌝ }
-    ensures { λ t. ⌜ Taken up (now (one .entry)) (now (step .entry)) (now (cap .entry)) n total t ⌝ }
+    requires blank { ⌜ now taken ≡ replicate 32 0 ⌝ }
+    ensures { λ _. ⌜ Taken up (now (one .entry)) (now (step .entry)) (now (cap .entry)) n total (now (taken .exit)) ⌝ }
 {
     let p = marks::find_mark(one, step, span, inv, cap, n, total);
-    let mut taken: [u64; 32] = [0; 32];
     let mut left: [u64; 32] = [0; 32];
-    take_above(one, step, span, inv, cap, n, p.merit, &mut taken, &mut left);
+    take_above(one, step, span, inv, cap, n, p.merit, taken, &mut left);
     let mut sum = p.sum;
     while sum < total {
         let a = choose(up, &left, n);
@@ -304,20 +278,68 @@ fn take_best(
         taken[a] = k + g;
         let x = next(one[a], step[a], cap[a], k + g);
         left[a] = x;
-        sum = take_level(
-            up,
-            one,
-            step,
-            cap,
-            n,
-            m,
-            total,
-            sum + g,
-            &mut taken,
-            &mut left,
-        );
+        sum = take_level(up, one, step, cap, n, m, total, sum + g, taken, &mut left);
     }
-    taken
+}
+
+// By the reciprocal of its step; all at once where it has none.
+fn shaped(one: u64, step: u64, cap: u64) -> Shape
+    requires { ⌜ Falls one step cap ⌝ }
+    ensures { λ s. ⌜ Source one step (s .span) (s .inv) cap ⌝ }
+{
+    if step == 0 {
+        return Shape {
+            span: marks::least(1, cap),
+            inv: marks::less(cap, 1) * 1099511627776,
+        };
+    }
+    Shape {
+        span: step * cap,
+        inv: 1099511627776 / step + 1,
+    }
+}
+
+// The same of each source.
+fn scale(
+    one: &[u64; 32],
+    step: &[u64; 32],
+    cap: &[u64; 32],
+    n: usize,
+    span: &mut [u64; 32],
+    inv: &mut [u64; 32],
+)
+    requires { ⌜ Sources (now one) (now step) (now cap) n ⌝ }
+    requires long { ⌜ (length (now span) ≡ 32) × (length (now inv) ≡ 32) ⌝ }
+    ensures { λ _. ⌜ Table (now (one .entry)) (now (step .entry)) (now (span .exit)) (now (inv .exit)) (now (cap .entry)) n ⌝ }
+{
+    let mut i = 0;
+    while i < n {
+        let s = shaped(one[i], step[i], cap[i]);
+        span[i] = s.span;
+        inv[i] = s.inv;
+        i += 1;
+    }
+}
+
+// The search among all these sources.
+fn take_scaled(
+    up: bool,
+    one: &[u64; 32],
+    step: &[u64; 32],
+    cap: &[u64; 32],
+    n: usize,
+    total: u64,
+    taken: &mut [u64; 32],
+)
+    requires { ⌜ Sources (now one) (now step) (now cap) n ⌝ }
+    requires room { ⌜ total ≤ sumTo (at (now cap)) n ⌝ }
+    requires blank { ⌜ now taken ≡ replicate 32 0 ⌝ }
+    ensures { λ _. ⌜ Taken up (now (one .entry)) (now (step .entry)) (now (cap .entry)) n total (now (taken .exit)) ⌝ }
+{
+    let mut span: [u64; 32] = [0; 32];
+    let mut inv: [u64; 32] = [0; 32];
+    scale(one, step, cap, n, &mut span, &mut inv);
+    take_best(up, one, step, &span, &inv, cap, n, total, taken);
 }
 
 // The merit, plus 1, of the last MWh of a source that has room for the whole total, the best there is; 0 where there is none.
@@ -383,11 +405,11 @@ fn gather(all: &[u64; 32], places: &[usize; 32], m: usize, few: &mut [u64; 32])
 }
 
 // And back: 0 at every other place.
-fn spread(few: &[u64; 32], places: &[usize; 32], m: usize) -> [u64; 32]
+fn spread(few: &[u64; 32], places: &[usize; 32], m: usize, all: &mut [u64; 32])
     requires { ⌜ Places 32 (now places) m ⌝ }
-    ensures { λ t. ⌜ Spread (now (few .entry)) (now (places .entry)) m t ⌝ }
+    requires blank { ⌜ now all ≡ replicate 32 0 ⌝ }
+    ensures { λ _. ⌜ Spread (now (few .entry)) (now (places .entry)) m (now (all .exit)) ⌝ }
 {
-    let mut all: [u64; 32] = [0; 32];
     let mut k = 0;
     while k < m {
         let i = places[k];
@@ -395,40 +417,42 @@ fn spread(few: &[u64; 32], places: &[usize; 32], m: usize) -> [u64; 32]
         all[i] = x;
         k += 1;
     }
-    all
 }
 
-// The engine by price. Where a source has room for the whole total, those whose first MWh is below its last have no part and are left out.
+// The engine by price. Where a source has room for the whole total, those whose first MWh is below its last have no part and are left out; where it alone is left, it gives all.
 pub fn price(
     up: bool,
     one: &[u64; 32],
     step: &[u64; 32],
-    span: &[u64; 32],
-    inv: &[u64; 32],
     cap: &[u64; 32],
     n: usize,
     total: u64,
-) -> [u64; 32]
-    requires { ⌜ Table (now one) (now step) (now span) (now inv) (now cap) n ⌝ }
+    taken: &mut [u64; 32],
+)
+    requires { ⌜ Sources (now one) (now step) (now cap) n ⌝ }
     requires room { ⌜ total ≤ sumTo (at (now cap)) n ⌝ }
-    ensures { λ t. ⌜ Taken up (now (one .entry)) (now (step .entry)) (now (cap .entry)) n total t ⌝ }
+    requires blank { ⌜ now taken ≡ replicate 32 0 ⌝ }
+    ensures { λ _. ⌜ Taken up (now (one .entry)) (now (step .entry)) (now (cap .entry)) n total (now (taken .exit)) ⌝ }
 {
     let bar = bar_of(one, step, cap, n, total);
     if bar == 0 {
-        return take_best(up, one, step, span, inv, cap, n, total);
+        take_scaled(up, one, step, cap, n, total, taken);
+        return;
     }
     let mut places: [usize; 32] = [0; 32];
     let m = find_rivals(bar, one, n, &mut places);
+    if m == 1 {
+        let i = places[0];
+        taken[i] = total;
+        return;
+    }
     let mut o: [u64; 32] = [0; 32];
     let mut d: [u64; 32] = [0; 32];
-    let mut w: [u64; 32] = [0; 32];
-    let mut v: [u64; 32] = [0; 32];
     let mut c: [u64; 32] = [0; 32];
     gather(one, &places, m, &mut o);
     gather(step, &places, m, &mut d);
-    gather(span, &places, m, &mut w);
-    gather(inv, &places, m, &mut v);
     gather(cap, &places, m, &mut c);
-    let few = take_best(up, &o, &d, &w, &v, &c, m, total);
-    spread(&few, &places, m)
+    let mut few: [u64; 32] = [0; 32];
+    take_scaled(up, &o, &d, &c, m, total, &mut few);
+    spread(&few, &places, m, taken);
 }

@@ -1,14 +1,10 @@
--- A label with its padding, and the blank entries past a record's counts, as tests.
+-- A label with its padding, and a blank entry, as tests.
 use mathlib.Core.Bool.{Bool, true, false, _&&_}
-use mathlib.Core.List.{List}
-use Prim.Native.Nat.{ℕ, _+_, _-_}
+use Prim.Native.Nat.{ℕ}
 use lib.Dec.{leb, ltb, eqb}
 use lib.ListN.{length, getD}
 use Rattle.rules.specs.Words.{allTo}
 use Rattle.rules.specs.Fields.{isCharacter}
-use Rattle.rules.specs.Group.{noDirect}
-use Rattle.rules.specs.Sequences.{noDelivery}
-use Rattle.rules.specs.Record.{noSource}
 use Rattle.rules.specs.declared.Label.{Label}
 use Rattle.rules.specs.declared.Plant.{Plant}
 use Rattle.rules.specs.declared.Plant.the-variants.{Unit as U, Purchase as P, Fixed as F}
@@ -17,7 +13,6 @@ use Rattle.rules.specs.declared.Basis.the-variants.{Low, Generation, Mwh}
 use Rattle.rules.specs.declared.Source.{Source}
 use Rattle.rules.specs.declared.Delivery.{Delivery}
 use Rattle.rules.specs.declared.Direct.{Direct}
-use Rattle.rules.specs.declared.Hour.{Hour}
 
 -- Labels.
 
@@ -59,26 +54,3 @@ blankBasis (Mwh v) = false
 
 unfoldable pub directBlank : Direct → Bool
 directBlank x = blankBasis (x .basis) && (eqb (x .percent) 0 && (eqb (x .source) 0 && eqb (x .delivery) 0))
-
--- the first k entries past a count
-abbrev pub sourcesBlank : List Source → ℕ → ℕ → Bool
-sourcesBlank sources n k = allTo (λ i. sourceBlank (getD sources (n + i) noSource)) k
-
-abbrev pub deliveriesBlank : List Delivery → ℕ → ℕ → Bool
-deliveriesBlank deliveries n k = allTo (λ i. deliveryBlank (getD deliveries (n + i) noDelivery)) k
-
-abbrev pub directsBlank : List Direct → ℕ → ℕ → Bool
-directsBlank directs n k = allTo (λ i. directBlank (getD directs (n + i) noDirect)) k
-
--- 32 places, and blanks in those past the count
-abbrev pub sourcesRest : List Source → ℕ → Bool
-sourcesRest sources n = eqb (length sources) 32 && sourcesBlank sources n (32 - n)
-
-abbrev pub deliveriesRest : List Delivery → ℕ → Bool
-deliveriesRest deliveries n = eqb (length deliveries) 32 && deliveriesBlank deliveries n (32 - n)
-
-abbrev pub directsRest : List Direct → ℕ → Bool
-directsRest directs n = eqb (length directs) 32 && directsBlank directs n (32 - n)
-
-unfoldable pub restBlank : Hour → Bool
-restBlank h = sourcesRest (h .sources) (h .nsources) && (deliveriesRest (h .deliveries) (h .ndeliveries) && directsRest (h .directs) (h .ndirects))

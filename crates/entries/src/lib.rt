@@ -1,8 +1,7 @@
-// Whether a label is one with zeros after it, and whether the entries past a record's counts are blank.
+// Whether a label is one with zeros after it, and whether an entry is blank.
 // Contracts cite this crate's Shape. Internal: the test of 15 calls it.
 ghost use mathlib.Core.Path.{_≡_};
-ghost use Prim.Native.Nat.{_≤_};
-ghost use Rattle.entries.specs.Shape.{ownByte, padded, ownLabel, blankLabel, blankPlant, blankBasis, sourceBlank, deliveryBlank, directBlank, sourcesRest, deliveriesRest, directsRest};
+ghost use Rattle.entries.specs.Shape.{ownByte, padded, ownLabel, blankLabel, blankPlant, blankBasis, sourceBlank, deliveryBlank, directBlank};
 use rules::Basis;
 use rules::Delivery;
 use rules::Direct;
@@ -54,13 +53,20 @@ pub fn is_label(l: Label) -> bool
     is_padded(l)
 }
 
+// No character, and sixteen zeros.
 fn is_blank_label(l: Label) -> bool
     ensures { λ r. ⌜ r ≡ blankLabel l ⌝ }
 {
     if l.len != 0 {
         return false;
     }
-    is_padded(l)
+    let mut all = true;
+    let mut at: usize = 0;
+    while at < 16 {
+        all = all & own_byte(false, l.bytes[at]);
+        at += 1;
+    }
+    all
 }
 
 fn is_blank_plant(p: Plant) -> bool
@@ -73,7 +79,7 @@ fn is_blank_plant(p: Plant) -> bool
     }
 }
 
-fn is_blank_source(x: Source) -> bool
+pub fn is_blank_source(x: Source) -> bool
     ensures { λ r. ⌜ r ≡ sourceBlank x ⌝ }
 {
     let p = x.plant;
@@ -84,7 +90,7 @@ fn is_blank_source(x: Source) -> bool
     is_blank_label(l)
 }
 
-fn is_blank_delivery(x: Delivery) -> bool
+pub fn is_blank_delivery(x: Delivery) -> bool
     ensures { λ r. ⌜ r ≡ deliveryBlank x ⌝ }
 {
     let s = x.sequence;
@@ -114,7 +120,7 @@ fn is_blank_basis(b: Basis) -> bool
     }
 }
 
-fn is_blank_direct(x: Direct) -> bool
+pub fn is_blank_direct(x: Direct) -> bool
     ensures { λ r. ⌜ r ≡ directBlank x ⌝ }
 {
     let b = x.basis;
@@ -128,51 +134,4 @@ fn is_blank_direct(x: Direct) -> bool
         return false;
     }
     x.delivery == 0
-}
-
-// The entries past a count.
-
-pub fn sources_blank(sources: [Source; 32], n: usize) -> bool
-    requires { ⌜ n ≤ 32 ⌝ }
-    ensures { λ r. ⌜ r ≡ sourcesRest sources n ⌝ }
-{
-    let mut i: usize = 0;
-    while i < 32 - n {
-        let x = sources[n + i];
-        if !is_blank_source(x) {
-            return false;
-        }
-        i += 1;
-    }
-    true
-}
-
-pub fn deliveries_blank(deliveries: [Delivery; 32], n: usize) -> bool
-    requires { ⌜ n ≤ 32 ⌝ }
-    ensures { λ r. ⌜ r ≡ deliveriesRest deliveries n ⌝ }
-{
-    let mut i: usize = 0;
-    while i < 32 - n {
-        let x = deliveries[n + i];
-        if !is_blank_delivery(x) {
-            return false;
-        }
-        i += 1;
-    }
-    true
-}
-
-pub fn directs_blank(directs: [Direct; 32], n: usize) -> bool
-    requires { ⌜ n ≤ 32 ⌝ }
-    ensures { λ r. ⌜ r ≡ directsRest directs n ⌝ }
-{
-    let mut i: usize = 0;
-    while i < 32 - n {
-        let x = directs[n + i];
-        if !is_blank_direct(x) {
-            return false;
-        }
-        i += 1;
-    }
-    true
 }

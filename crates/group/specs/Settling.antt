@@ -168,8 +168,8 @@ pub remainder-by : (number : InternalSequence) (n total took : ℕ) (ss : List R
 remainder-by number n total took ss r i way d e l s h = remainder-outcome number n total took ss r d ∙ rw e (outcome-by number (ltb total took) i n ss r l s (rw e at h))
 
 -- where a remainder stands after i ways: the states are as they were, and the lists may hold the next way's lines
-pub record Trying (up : Bool) (n : ℕ) (ss₀ : List Running) (r : ℕ) (one step span inv cap : List ℕ) (ss : List Running) (i : ℕ) : Type 0 where
-  pub lists : Long one step span inv cap
+pub record Trying (up : Bool) (n : ℕ) (ss₀ : List Running) (r : ℕ) (one step cap : List ℕ) (ss : List Running) (i : ℕ) : Type 0 where
+  pub lists : Long one step cap
   pub same : ss ≡ ss₀
   pub long : length ss ≡ 32
   pub ready : AllReady ss n

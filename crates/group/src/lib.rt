@@ -1,5 +1,7 @@
 // One group: a D line's direct allocation, and the remainder of the group by either engine.
 // The contracts cite rules' Group: `directed`, `unload`, `credit` and `remainder`.
+pub mod first;
+
 use curve::Rung;
 use ladder::Way;
 use rules::Basis;
@@ -102,7 +104,11 @@ pub fn allocate(s: Running, line: Direct) -> Running
     let percent = s.percent + line.percent;
     let mwh = b * percent / 100;
     let after = curve::changed_cost(t, mwh);
-    let before = curve::changed_cost(t, s.d);
+    let before = if s.d == 0 {
+        0
+    } else {
+        curve::changed_cost(t, s.d)
+    };
     s.with_direct(mwh, b, percent, s.paid + (after - before))
 }
 
@@ -132,7 +138,7 @@ fn way_at(up: bool, i: usize) -> Way
     Way::Down(Rung::Emergency)
 }
 
-fn distance(a: u64, b: u64) -> u64
+pub fn distance(a: u64, b: u64) -> u64
     ensures { λ r. ⌜ r ≡ apart a b ⌝ }
 {
     if b <= a {
@@ -189,8 +195,6 @@ pub fn settle(
     let ways = tries_of(up);
     let mut one: [u64; 32] = [0; 32];
     let mut step: [u64; 32] = [0; 32];
-    let mut span: [u64; 32] = [0; 32];
-    let mut inv: [u64; 32] = [0; 32];
     let mut cap: [u64; 32] = [0; 32];
     let mut end = Settled {
         verdict: Verdict::Done,
@@ -203,18 +207,14 @@ pub fn settle(
         let mut i = 0;
         while i < n {
             let s = end.states[i];
-            let room = ladder::room_by(way, s);
-            let line = shift::line_of(up, s, room);
-            one[i] = line.one;
-            step[i] = line.step;
-            span[i] = line.span;
-            inv[i] = line.inv;
-            cap[i] = room;
-            sum += room;
+            let p = s.plant;
+            step[i] = shift::step_of(p);
+            sum += ladder::set_line(way, &mut one, &mut cap, i, s);
             i += 1;
         }
         if rest <= sum {
-            let taken = shift::take(by_price, up, &one, &step, &span, &inv, &cap, n, rest);
+            let mut taken: [u64; 32] = [0; 32];
+            shift::take(by_price, up, &one, &step, &cap, n, rest, &mut taken);
             let mut k = 0;
             while k < n {
                 let t = taken[k];

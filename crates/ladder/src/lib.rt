@@ -1,12 +1,12 @@
-// A remainder's ways: the room of a source and of all, by each; and the ladder's last step.
+// A remainder's ways: the room of a source and of all, by each, and a source's line; and the ladder's last step.
 // The contracts cite rules' Group: `all`, `plain`, `lastStep` and `toEmergency`, and specs/ for what an engine makes of a way's lines.
 use curve::Rung;
 use rules::Running;
 ghost use mathlib.Core.Path.{_≡_};
-ghost use Prim.Native.Nat.{_+_, _≤_};
+ghost use Prim.Native.Nat.{_+_, _≤_, _<_};
 ghost use Rattle.rules.specs.Group.{all, room, emergency, last, plain, lastStep, toEmergency};
 ghost use Rattle.shift.specs.Ready.{Ready, AllReady};
-ghost use Rattle.ladder.specs.Ways.{wayOf};
+ghost use Rattle.ladder.specs.Ways.{wayOf, upOf, LineSet};
 ghost use Rattle.ladder.specs.LastStep.{before, Chosen};
 
 // Down by a rung of the ladder, or up for a credit.
@@ -24,6 +24,28 @@ pub fn room_by(way: Way, s: Running) -> u64
         Way::Down(x) => curve::room_of(s, x) as u64,
         Way::Up => curve::headroom_of(s) as u64,
     }
+}
+
+fn up_of(way: Way) -> bool
+    ensures { λ r. ⌜ r ≡ upOf way ⌝ }
+{
+    match way {
+        Way::Down(_) => false,
+        Way::Up => true,
+    }
+}
+
+// The top of a source's line and its room, put in their places.
+pub fn set_line(way: Way, one: &mut [u64; 32], cap: &mut [u64; 32], i: usize, s: Running) -> u64
+    requires { ⌜ i < 32 ⌝ }
+    requires ready { ⌜ Ready s ⌝ }
+    ensures { λ r. ⌜ LineSet way s i (now (one .entry)) (now (cap .entry)) (now (one .exit)) (now (cap .exit)) r ⌝ }
+{
+    let room = room_by(way, s);
+    let top = shift::top_of(up_of(way), s, room);
+    one[i] = top;
+    cap[i] = room;
+    room
 }
 
 // By how many the first n together.

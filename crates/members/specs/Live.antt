@@ -1,11 +1,16 @@
 -- The places of a row that are gone through: those whose size is not 0, in order.
+use mathlib.Core.Bool.{Bool, true, false, not, _&&_}
 use mathlib.Core.List.{List}
 use mathlib.Core.Path.{_≡_, refl, _∙_}
-use Prim.Native.Nat.{ℕ, zero, suc, _+_, _≤_, _<_}
+use Prim.Native.Nat.{ℕ, zero, suc, _+_, _-_, _≤_, _<_}
+use native.Mathlib.Decide.{decLt}
 use native.Mathlib.Numerals.{add-one}
 use native.Mathlib.Omega.{arith}
+use borrow.Author.Tests.{eqb-true}
+use lib.Dec.{eqb}
 use lib.ListN.{length, getD, set, length-set}
 use lib.Seq.{getD-set-same, getD-set-other}
+use Rattle.laws.specs.Choices.{both-true, not-false}
 use Rattle.laws.specs.Sums.{below-suc}
 
 -- how far the first k listed places reach: one past the last of them
@@ -21,6 +26,31 @@ pub record Listed (sizes : List ℕ) (q : ℕ) (live : List ℕ) (k : ℕ) : Typ
   pub rises : (i : ℕ) → i < k → reached live i ≤ getD live i 0
   pub between : (i p : ℕ) → i < k → reached live i ≤ p → p < getD live i 0 → getD sizes p 0 ≡ 0
   pub after : (p : ℕ) → reached live k ≤ p → p < q → getD sizes p 0 ≡ 0
+
+-- whether one of the four sizes from q on is not 0
+unfoldable pub anyOf : List ℕ → ℕ → Bool
+anyOf sizes q = not (eqb (getD sizes q 0) 0 && (eqb (getD sizes (q + 1) 0) 0 && (eqb (getD sizes (q + 2) 0) 0 && eqb (getD sizes (q + 3) 0) 0)))
+
+pub any-none : (sizes : List ℕ) (q : ℕ) → anyOf sizes q ≡ false → (p : ℕ) → q ≤ p → p < q + 4 → getD sizes p 0 ≡ 0
+unfolding anyOf
+any-none sizes q e p l m =
+    let a = both-true (zero-at q) (zero-at (q + 1) && (zero-at (q + 2) && zero-at (q + 3))) (not-false _ e) in
+    let b = both-true (zero-at (q + 1)) (zero-at (q + 2) && zero-at (q + 3)) (a .1) in
+    let c = both-true (zero-at (q + 2)) (zero-at (q + 3)) (b .1) in
+    go (a .0) (b .0) (c .0) (c .1) (p - q) (omega arith)
+  where
+    zero-at : ℕ → Bool
+    zero-at k = eqb (getD sizes k 0) 0
+
+    at : (k : ℕ) → p ≡ k → zero-at k ≡ true → getD sizes p 0 ≡ 0
+    at k z n = rw z (eqb-true (getD sizes k 0) 0 n)
+
+    go : zero-at q ≡ true → zero-at (q + 1) ≡ true → zero-at (q + 2) ≡ true → zero-at (q + 3) ≡ true → (r : ℕ) → p ≡ q + r → getD sizes p 0 ≡ 0
+    go a b c d zero z = at q (omega arith) a
+    go a b c d (suc zero) z = at (q + 1) z b
+    go a b c d (suc (suc zero)) z = at (q + 2) z c
+    go a b c d (suc (suc (suc zero))) z = at (q + 3) z d
+    go a b c d (suc (suc (suc (suc r)))) z = absurd (omega arith)
 
 pub reached-more : (live : List ℕ) (k : ℕ) → reached live (k + 1) ≡ getD live k 0 + 1
 unfolding reached
@@ -50,6 +80,17 @@ module _ (sizes live : List ℕ) where
     rises = λ i l. absurd (omega arith);
     between = λ i p l m o. absurd (omega arith);
     after = λ p l m. absurd (omega arith);
+  }
+
+  -- places of size 0 passed by
+  pub listed-idle : (q r k : ℕ) → q ≤ r → ((p : ℕ) → q ≤ p → p < r → getD sizes p 0 ≡ 0) → Listed sizes q live k → Listed sizes r live k
+  listed-idle q r k l none s = record {
+    long = s .long;
+    few = omega (arith, s .few);
+    place = λ i m. omega (arith, s .place i m);
+    rises = s .rises;
+    between = s .between;
+    after = λ p a b. elim (decLt p q) [ yes y ↦ s .after p a y | no y ↦ none p (omega arith) b ];
   }
 
   module _ (q k : ℕ) (within : q < 128) (s : Listed sizes q live k) where

@@ -2,7 +2,7 @@
 use mathlib.Core.Bool.{Bool, true, false}
 use mathlib.Core.List.{List}
 use mathlib.Core.Path.{_≡_, refl, sym, ap, _∙_}
-use Prim.Native.Nat.{ℕ, _+_, _-_, _*_, _≤_, _<_}
+use Prim.Native.Nat.{ℕ, _+_, _-_, _*_, _/_, _≤_, _<_}
 use native.Mathlib.Nat.{mul-le-mul}
 use native.Mathlib.Omega.{arith}
 use lib.IntN.{ℤ, pos}
@@ -63,10 +63,11 @@ module _ (ns : List InternalSequence) (x : ℕ) where
 
 -- The rows.
 
--- group x of `total` MWh, with room for n rows of a width; nothing stands in its members' rows
+-- group x of `total` MWh, with room for n rows of a width, four places a source; nothing stands in its members' rows
 pub record RowsGiven (width n : ℕ) (ms : List ℕ) (ns : List InternalSequence) (x total : ℕ) (sizes : List ℕ) (xs : List ℤ) : Type 0 where
   pub mwhs : MwhsSmall ms n
   pub narrow : width ≤ 128
+  pub fours : width / 4 * 4 ≡ width
   pub room : n * width ≤ length xs
   pub sum : total ≡ scheduledIn ms ns x n
   pub sizes-small : SizesSmall width sizes
@@ -216,6 +217,7 @@ module _ (h : Hour) (ms : List ℕ) (m : MwhsOf h ms) where
       rows-given b s = record {
         mwhs = mwhs-small (g .hour);
         narrow = omega (arith, g .few);
+        fours = omega arith;
         room = g .room;
         sum = g .sum ∙ sym (scheduled-in (h .ndeliveries) (omega arith));
         sizes-small = s;

@@ -1,14 +1,14 @@
 // The shares of one group's members, written into the hour's cells.
-// The contracts cite `amount` and `upTo` of rules' Group, and specs/, which has them in the hour's words.
+// The contracts cite `level` and `upTo` of rules' Group, merit's NumbersStaySmall for what fits, and specs/, which has them in the hour's words.
 use rules::InternalSequence;
 use rules::Running;
 ghost use mathlib.Core.Path.{_≡_};
-ghost use Prim.Native.Nat.{_+_, _-_, _*_, _≤_, _<_};
+ghost use Prim.Native.Nat.{_+_, _-_, _*_, _/_, _≤_, _<_};
 ghost use lib.ListN.{length};
-ghost use Rattle.rules.specs.Group.{amount, upTo};
-ghost use Rattle.members.specs.Shared.{SourceRun};
-ghost use Rattle.members.specs.Amounts.{setFour, someTaken};
-ghost use Rattle.members.specs.Live.{Listed};
+ghost use Rattle.merit.specs.NumbersStaySmall.{Small};
+ghost use Rattle.rules.specs.Group.{level, upTo};
+ghost use Rattle.members.specs.Amounts.{directAdded, DirectFits, movedSizes, movedSigns};
+ghost use Rattle.members.specs.Live.{anyOf, Listed};
 ghost use Rattle.members.specs.Rows.{RowFits, Row};
 ghost use Rattle.members.specs.Members.{MwhsSmall, scheduledIn, RowsGiven, RowsWritten};
 
@@ -38,60 +38,81 @@ fn distance(x: u64, y: u64) -> u64
     x - y
 }
 
-// Whether the group takes anything from a source.
-pub fn takes(s: Running, t: Running, u: Running) -> bool
-    ensures { λ r. ⌜ r ≡ someTaken s t u ⌝ }
+// A D line's amounts from source i, which it found at s and left at t, added to the group's.
+pub fn add_direct(sizes: &mut [u64; 128], i: usize, s: Running, t: Running)
+    requires { ⌜ DirectFits i s t (now sizes) ⌝ }
+    ensures { λ _. ⌜ now (sizes .exit) ≡ directAdded (now (sizes .entry)) i s t ⌝ }
 {
-    if t.d != s.d {
-        return true;
-    }
-    if t.paid != s.paid {
-        return true;
-    }
-    t.v != u.v
+    let at = i * 4;
+    let mwh = sizes[at];
+    let paid = sizes[at + 2];
+    sizes[at] = mwh + (t.d - s.d) as u64;
+    sizes[at + 2] = paid + (t.paid - s.paid);
 }
 
-// What the group takes from source i: its amounts' sizes and signs.
-pub fn set_source(
-    sizes: &mut [u64; 128],
-    minus: &mut [bool; 128],
-    i: usize,
-    s: Running,
-    t: Running,
-    u: Running,
-)
-    requires { ⌜ (i < 32) × SourceRun s t u ⌝ }
-    ensures sizes { λ _. ⌜ now (sizes .exit) ≡ setFour (now (sizes .entry)) (i * 4) (λ item. amount item s t u .size) ⌝ }
-    ensures signs { λ _. ⌜ now (minus .exit) ≡ setFour (now (minus .entry)) (i * 4) (λ item. amount item s t u .minus) ⌝ }
+// The remainder's amounts from source i, moved from t to u: their sizes and signs.
+pub fn set_moved(sizes: &mut [u64; 128], minus: &mut [bool; 128], i: usize, t: Running, u: Running)
+    requires { ⌜ i < 32 ⌝ }
+    requires before { ⌜ Small t × (level t ≤ 4000) ⌝ }
+    requires after { ⌜ Small u × (level u ≤ 4000) ⌝ }
+    ensures sizes { λ _. ⌜ now (sizes .exit) ≡ movedSizes (now (sizes .entry)) i t u ⌝ }
+    ensures signs { λ _. ⌜ now (minus .exit) ≡ movedSigns (now (minus .entry)) i t u ⌝ }
 {
     let x = t.v + t.d;
     let y = u.v + u.d;
     let wx = curve::changed_cost(t, x);
     let wy = curve::changed_cost(u, y);
     let at = i * 4;
-    sizes[at] = (t.d - s.d) as u64;
-    minus[at] = false;
     sizes[at + 1] = distance(x as u64, y as u64);
     minus[at + 1] = x < y;
-    sizes[at + 2] = t.paid - s.paid;
-    minus[at + 2] = false;
     sizes[at + 3] = distance(wx, wy);
     minus[at + 3] = wx < wy;
 }
 
-// The places below width whose size is not 0, and how many.
+// Whether one of four sizes is not 0.
+fn any_of(sizes: &[u64; 128], q: usize) -> bool
+    requires { ⌜ q + 4 ≤ 128 ⌝ }
+    ensures { λ r. ⌜ r ≡ anyOf (now (sizes .entry)) q ⌝ }
+{
+    if sizes[q] != 0 {
+        return true;
+    }
+    if sizes[q + 1] != 0 {
+        return true;
+    }
+    if sizes[q + 2] != 0 {
+        return true;
+    }
+    sizes[q + 3] != 0
+}
+
+// Place q, listed after the k before it where its size is not 0; how many are listed then.
+fn push(live: &mut [usize; 128], k: usize, q: usize, sizes: &[u64; 128]) -> usize
+    requires { ⌜ (q < 128) × Listed (now sizes) q (now live) k ⌝ }
+    ensures { λ r. ⌜ Listed (now (sizes .entry)) (q + 1) (now (live .exit)) r ⌝ }
+{
+    live[k] = q;
+    if sizes[q] != 0 {
+        return k + 1;
+    }
+    k
+}
+
+// The places below width whose size is not 0, and how many; by fours, as a source has them.
 fn list_live(live: &mut [usize; 128], sizes: &[u64; 128], width: usize) -> usize
-    requires { ⌜ (width ≤ 128) × (length (now live) ≡ 128) ⌝ }
+    requires { ⌜ (width ≤ 128) × (width / 4 * 4 ≡ width) × (length (now live) ≡ 128) ⌝ }
     ensures { λ r. ⌜ Listed (now (sizes .entry)) width (now (live .exit)) r ⌝ }
 {
     let mut k = 0;
     let mut q = 0;
     while q < width {
-        live[k] = q;
-        if sizes[q] != 0 {
-            k += 1;
+        if any_of(sizes, q) {
+            k = push(live, k, q, sizes);
+            k = push(live, k, q + 1, sizes);
+            k = push(live, k, q + 2, sizes);
+            k = push(live, k, q + 3, sizes);
         }
-        q += 1;
+        q += 4;
     }
     k
 }

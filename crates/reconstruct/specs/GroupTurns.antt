@@ -1,5 +1,5 @@
 -- One group's turn: what its code may rely on, and where the run stands after it.
-use mathlib.Core.Bool.{true}
+use mathlib.Core.Bool.{Bool, true}
 use mathlib.Core.List.{List, map}
 use mathlib.Core.Path.{_≡_, sym, ap, _∙_}
 use Prim.Native.Nat.{ℕ, suc, _+_, _-_, _*_, _≤_, _<_}
@@ -9,10 +9,11 @@ use borrow.Author.Tests.{eqb-true}
 use lib.IntN.{ℤ, pos}
 use lib.ListN.{length, replicate, length-replicate}
 use Rattle.balance.specs.AnswerCells.{cellAt}
+use Rattle.group.specs.FirstWay.{FirstLines}
 use Rattle.group.specs.Settling.{settled}
 use Rattle.group.specs.declared.Settled.{Settled}
 use Rattle.group.specs.declared.Verdict.the-variants.{Done, Refused}
-use Rattle.members.specs.Amounts.{each-place}
+use Rattle.members.specs.Amounts.{Amounts, each-place}
 use Rattle.members.specs.Shared.{DeliveriesSmall, SourceRuns, GroupGiven, SharedInto}
 use Rattle.merit.specs.LevelNeverBelowB.{stateAt, Moved}
 use Rattle.merit.specs.RemainderMoves.{shift-moved, remainder-moves}
@@ -38,7 +39,7 @@ done-not-refused : {A : Type 0} {y : Refusal} → Done ≡ Refused y → A
 done-not-refused e = let z : _≡_ {A = ℕ} 0 1 = cc in absurd (omega arith)
 
 -- a remainder's verdict, and its outcome
-done-outcome : (ts : List Running) (o : Outcome (List Running)) (r : Settled) → r ≡ settled ts o → r .verdict ≡ Done → o ≡ accepted (r .states)
+pub done-outcome : (ts : List Running) (o : Outcome (List Running)) (r : Settled) → r ≡ settled ts o → r .verdict ≡ Done → o ≡ accepted (r .states)
 done-outcome ts (accepted us) r e v = ap (λ (x : Settled). accepted (x .states)) (sym e)
 done-outcome ts (refused y) r e v = refused-not-done (sym (ap (λ (x : Settled). x .verdict) e) ∙ v)
 
@@ -69,17 +70,18 @@ module _ (h : Hour) (ns : List InternalSequence) where
     pub done : r .verdict ≡ Done → Reached h ns x (r .states) xs
     pub ended : (y : Refusal) → r .verdict ≡ Refused y → groups h ns 1000 ≡ refused y
 
-  -- its D lines left ts, it has so many MWh, and its remainder's answer is r
-  pub record Worked (x : ℕ) (ss ts : List Running) (total : ℕ) (r : Settled) : Type 0 where
+  -- its D lines left ts and took so much, and it has so many MWh
+  pub record Worked (x : ℕ) (ss ts : List Running) (total took : ℕ) : Type 0 where
     pub lines : ts ≡ directedTo h ns x ss
     pub mwh : total ≡ scheduled h ns x (h .ndeliveries)
-    pub settled : r ≡ settled ts (leftAfter h ns x ss ts)
+    pub taken : took ≡ tookAll (h .nsources) ss ts
 
-  pub worked : (x : ℕ) (ss ts : List Running) (total took : ℕ) (r : Settled) → ts ≡ directedTo h ns x ss → total ≡ scheduled h ns x (h .ndeliveries) → took ≡ tookAll (h .nsources) ss ts →
-      r ≡ settled ts (remainder (record { 0 = x }) (h .nsources) total took ts) → Worked x ss ts total r
-  worked x ss ts total took r e a b s =
-      let left : remainder (record { 0 = x }) (h .nsources) total took ts ≡ leftAfter h ns x ss ts = rw (a, b) in
-      record { lines = e; mwh = a; settled = s ∙ ap (settled ts) left }
+  -- its remainder left us, the tables hold its amounts, and the lines are those of us
+  pub record Rested (x : ℕ) (ss ts : List Running) (total took : ℕ) (us : List Running) (step down room above head sizes : List ℕ) (minus : List Bool) : Type 0 where
+    pub left : remainder (record { 0 = x }) (h .nsources) total took ts ≡ accepted us
+    pub amounts : Amounts ss ts us (h .nsources) sizes minus
+    pub lines : FirstLines us step down room above head (h .nsources)
+    pub long : length us ≡ 32
 
   module _ (x : ℕ) (ss : List Running) (xs : List ℤ) (f : TurnFits x ss xs) where
     stands : Standing h ns (suc x) (f .reached .progress)
@@ -103,44 +105,46 @@ module _ (h : Hour) (ns : List InternalSequence) where
         each-place (λ y. cellAt xs (k * (h .nsources * 4) + y) ≡ pos 0) (h .nsources)
         (λ i item d. f .reached .held .at k i item l d ∙ stands .balanced .untouched k i item (omega (arith, eqb-true (internalAt ns k) x e))) q m
 
-    -- the states after the D lines, the group's MWh, and the remainder's answer
-    module _ (ts : List Running) (total : ℕ) (r : Settled) (w : Worked x ss ts total r) where
-      -- the remainder renews v alone
-      pub turn-moved : r .verdict ≡ Done → (i : ℕ) → Moved (stateAt ts i) (stateAt (r .states) i)
-      turn-moved v i = shift-moved (turn-ready ts (w .lines) .ready i .sound) (remainder-moves _ _ _ _ ts (r .states) (done-outcome ts _ r (w .settled) v) .each i)
+    -- every state is ready before its D lines
+    pub turn-start : AllReady ss (h .nsources)
+    turn-start = rw (f .reached .states) (stands .ready)
 
-      runs : r .verdict ≡ Done → SourceRuns ss ts (r .states)
-      runs v i =
-          let a = turn-ready ts (w .lines) in
-          let b = remainder-ready _ _ _ _ ts (r .states) a (done-outcome ts _ r (w .settled) v) .ready i in
-          record { took = rw (w .lines, f .reached .states) (lines-took h ns x (f .reached .progress) stands i); after = a .ready i .small; settled = b .small; sound = b .sound }
+    module _ (ts : List Running) (total took : ℕ) (w : Worked x ss ts total took) where
+      abbrev remains : Outcome (List Running)
+      remains = remainder (record { 0 = x }) (h .nsources) total took ts
 
-      pub turn-given : r .verdict ≡ Done → GroupGiven h ns x total xs × SourceRuns ss ts (r .states)
-      turn-given v = (
-        record {
-          hour = turn-deliveries;
-          few = valid-given h (f .valid) .sources .few;
-          room = omega (arith, cells-few h (f .valid), f .long);
-          sum = w .mwh;
-        },
-        runs v,
-      )
+      left : leftAfter h ns x ss (directedTo h ns x ss) ≡ remains
+      left = rw (w .mwh, w .taken, w .lines)
 
-      outcome : (o : Outcome (List Running)) → leftAfter h ns x ss ts ≡ o → leftAfter h ns x ss (directedTo h ns x ss) ≡ o
-      outcome o e = rw (w .lines) at e
+      -- the states after its remainder
+      module _ (us : List Running) (e : remains ≡ accepted us) where
+        -- they differ in v alone
+        pub turn-moved : (i : ℕ) → Moved (stateAt ts i) (stateAt us i)
+        turn-moved i = shift-moved (turn-ready ts (w .lines) .ready i .sound) (remainder-moves _ _ _ _ ts us e .each i)
 
-      ends : (y : Refusal) → r .verdict ≡ Refused y → groups h ns 1000 ≡ refused y
-      ends y v = reached-refused h ns x ss xs (f .reached) (f .members) y (outcome (refused y) (refused-outcome ts _ r y (w .settled) v))
+        pub turn-runs : SourceRuns ss ts us
+        turn-runs i =
+            let a = turn-ready ts (w .lines) in
+            let b = remainder-ready _ _ _ _ ts us a e .ready i in
+            record { took = rw (w .lines, f .reached .states) (lines-took h ns x (f .reached .progress) stands i); after = a .ready i .small; settled = b .small; sound = b .sound }
 
-      pub turn-done : (ys : List ℤ) → r .verdict ≡ Done → SharedInto h ns x ss ts (r .states) xs ys → Turned x r ys
-      turn-done ys v s = record {
-        long = s .long ∙ f .long;
-        done = λ q. reached-turn h ns x ss xs (f .reached) (f .members) (r .states) ys (outcome (accepted (r .states)) (done-outcome ts _ r (w .settled) v)) (record { at = rw (w .lines) at (s .cells) });
-        ended = ends;
+        pub turn-done : (ys : List ℤ) → SharedInto h ns x ss ts us xs ys → Reached h ns x us ys
+        turn-done ys s = reached-turn h ns x ss xs (f .reached) (f .members) us ys (left ∙ e) (record { at = rw (w .lines) at (s .cells) })
+
+      pub turn-given : GroupGiven h ns x total xs
+      turn-given = record {
+        hour = turn-deliveries;
+        few = valid-given h (f .valid) .sources .few;
+        room = omega (arith, cells-few h (f .valid), f .long);
+        sum = w .mwh;
       }
 
-      pub turn-refused : (y : Refusal) → r .verdict ≡ Refused y → Turned x r xs
-      turn-refused y v = record { long = f .long; done = λ q. refused-not-done (sym v ∙ q); ended = ends }
+      pub turn-refused : (r : Settled) (y : Refusal) → r ≡ settled ts remains → r .verdict ≡ Refused y → Turned 0 r xs
+      turn-refused r y s v = record {
+        long = f .long;
+        done = λ q. refused-not-done (sym v ∙ q);
+        ended = λ z q. reached-refused h ns x ss xs (f .reached) (f .members) z (left ∙ refused-outcome ts _ r z s q);
+      }
 
   -- Between turns: all numbers from x up are done, and the next below x has a member.
   pub record Between (x : ℕ) (ss : List Running) (xs : List ℤ) : Type 0 where
@@ -159,10 +163,7 @@ module _ (h : Hour) (ns : List InternalSequence) where
       let e : x ≡ suc (x - 1) = omega arith in
       record { valid = v; reached = rw e at (b .reached); members = b .next (x - 1) e; long = b .long }
 
-  pub all-turned : (x : ℕ) (r : Settled) (xs : List ℤ) → x ≤ 0 → r .verdict ≡ Done → Between x (r .states) xs → Turned 0 r xs
-  all-turned x r xs l v b =
+  pub all-turned : (x : ℕ) (ss : List Running) (xs : List ℤ) → x ≤ 0 → Between x ss xs → Turned 0 (record { verdict = Done; states = ss }) xs
+  all-turned x ss xs l b =
       let e : x ≡ 0 = omega arith in
-      record { long = b .long; done = λ q. rw e at (b .reached); ended = λ y q. done-not-refused (sym v ∙ q) }
-
-  pub turned-ends : (x : ℕ) (r : Settled) (y : Refusal) (xs : List ℤ) → r .verdict ≡ Refused y → Turned x r xs → Turned 0 r xs
-  turned-ends x r y xs v t = record { long = t .long; done = λ q. refused-not-done (sym v ∙ q); ended = t .ended }
+      record { long = b .long; done = λ q. rw e at (b .reached); ended = λ y q. done-not-refused q }

@@ -9,3 +9,4 @@ pub mod CellsWritten
 pub mod CellsCopied
 pub mod GroupTurns
 pub mod WholeAnswer
+pub mod AllMoved

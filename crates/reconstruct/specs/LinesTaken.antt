@@ -17,6 +17,7 @@ use Rattle.rules.specs.Hour.{tookAll}
 use Rattle.rules.specs.Words.{if_then_else_, sumTo}
 use Rattle.rules.specs.declared.Direct.{Direct}
 use Rattle.rules.specs.declared.Running.{Running}
+use Rattle.shift.specs.Ready.{AllReady, took-ready}
 
 abbrev pub lineAt : List Direct → ℕ → Direct
 lineAt lines q = getD lines q noDirect
@@ -41,6 +42,9 @@ pub line-took : (s y : Running) (line : Direct) → LineFits s line → y ≡ di
 line-took s y line f e =
     let t = directed-took s line (f .sound) (f .percent) in
     rw e (t .more, omega (arith, t .sound .part, took-small s (directed s line) (f .small) t .b))
+
+pub line-directs : (s y : Running) (line : Direct) → LineFits s line → y ≡ directed s line → Took s y
+line-directs s y line f e = rw e (directed-took s line (f .sound) (f .percent))
 
 module _ (asked : ℕ → Bool) (lines : List Direct) (ss : List Running) (n : ℕ) where
   -- after the first q lines: the states, and what those asked for took from the first n sources
@@ -69,6 +73,12 @@ module _ (asked : ℕ → Bool) (lines : List Direct) (ss : List Running) (n : �
 
     passed : (q : ℕ) (us : List Running) (took i : ℕ) → q ≤ k → LinesTaken q us took → Directed (percents asked lines i q) (stateAt ss i) (stateAt us i)
     passed q us took i l t = rw (t .states) (groupLines-directed asked lines ss i (f .sound i) q (percents-fit q i l))
+
+    pub taken-took : (q took : ℕ) (us : List Running) → q ≤ k → LinesTaken q us took → (i : ℕ) → Took (stateAt ss i) (stateAt us i)
+    taken-took q took us l t i = passed q us took i l t .took
+
+    pub taken-ready : (q took : ℕ) (us : List Running) → q ≤ k → LinesTaken q us took → AllReady ss n → AllReady us n
+    taken-ready q took us l t r = record { n-small = f .n-small; ready = λ i. took-ready _ _ (r .ready i) (taken-took q took us l t i) }
 
     pub taken-small : (q took : ℕ) (us : List Running) → q ≤ k → LinesTaken q us took → took ≤ 64_000
     taken-small q took us l t =

@@ -11,12 +11,12 @@ ghost use Rattle.rules.specs.Group.{opened};
 ghost use Rattle.rules.specs.Writing.{valid};
 ghost use Rattle.reconstruct.specs.Answers.{reconstructedOf};
 ghost use Rattle.reconstruct.specs.HighestNumber.{above, Highest};
-ghost use Rattle.reconstruct.specs.MwhsListed.{Mwhs};
+ghost use Rattle.shift.specs.Ready.{AllReady};
+ghost use Rattle.reconstruct.specs.AllMoved.{Retold};
 ghost use Rattle.reconstruct.specs.GroupTurns.{Turned};
 ghost use Rattle.reconstruct.specs.CellsWritten.{OpenFits, OpenPut};
 use group::Settled;
 use group::Verdict;
-use rules::Delivery;
 use rules::Hour;
 use rules::InternalSequence;
 use rules::Plant;
@@ -31,7 +31,7 @@ pub enum Reconstructed {
 }
 
 // A source at the hour's start.
-fn open(p: Plant) -> Running
+pub fn open(p: Plant) -> Running
     ensures { λ r. ⌜ r ≡ opened p ⌝ }
 {
     Running {
@@ -43,37 +43,6 @@ fn open(p: Plant) -> Running
         percent: 0,
         paid: 0,
     }
-}
-
-// Every source at the hour's start.
-pub fn open_all(sources: [Source; 32]) -> [Running; 32]
-    ensures { λ r. ⌜ r ≡ map (λ s. opened (s .plant)) sources ⌝ }
-{
-    let blank = open(Plant::Fixed { g: 0 });
-    let mut states = [blank; 32];
-    let mut i = 0;
-    while i < 32 {
-        let s = sources[i];
-        let p = s.plant;
-        states[i] = open(p);
-        i += 1;
-    }
-    states
-}
-
-// The MWh of the first n deliveries.
-fn mwhs_of(deliveries: [Delivery; 32], n: usize) -> [u64; 32]
-    requires { ⌜ n ≤ 32 ⌝ }
-    ensures { λ r. ⌜ Mwhs deliveries n r ⌝ }
-{
-    let mut mwhs: [u64; 32] = [0; 32];
-    let mut j = 0;
-    while j < n {
-        let t = deliveries[j];
-        mwhs[j] = t.mwh as u64;
-        j += 1;
-    }
-    mwhs
 }
 
 // The greater of best and one more than y, where y is below x.
@@ -139,7 +108,28 @@ fn copy_out(cells: &[i64; 4160], out: &mut [i64], n: usize)
     }
 }
 
+// The incremental amounts of each source.
+fn set_all(
+    sizes: &mut [u64; 128],
+    minus: &mut [bool; 128],
+    before: [Running; 32],
+    after: [Running; 32],
+    n: usize,
+)
+    requires { ⌜ AllReady before n × AllReady after n ⌝ }
+    ensures { λ _. ⌜ Retold before after n (now (sizes .entry)) (now (minus .entry)) (now (sizes .exit)) (now (minus .exit)) ⌝ }
+{
+    let mut i = 0;
+    while i < n {
+        let t = before[i];
+        let u = after[i];
+        members::set_moved(sizes, minus, i, t, u);
+        i += 1;
+    }
+}
+
 // Every number that a delivery has, from the highest down: its D lines, its remainder, and its members' shares; the first refusal ends the run.
+// The states are large, so their owner goes through them itself. The lines of a remainder's first way are kept, and renewed where a source changes.
 fn take_turns(
     h: Hour,
     numbers: [InternalSequence; 32],
@@ -150,19 +140,42 @@ fn take_turns(
     ensures { λ r. ⌜ Turned h numbers 0 r (now (cells .exit)) ⌝ }
 {
     let n = h.nsources;
-    let sources = h.sources;
-    let deliveries = h.deliveries;
-    let mwhs = mwhs_of(deliveries, h.ndeliveries);
-    let mut end = Settled {
-        verdict: Verdict::Done,
-        states: open_all(sources),
-    };
+    let m = h.ndeliveries;
+    let mut mwhs: [u64; 32] = [0; 32];
+    let mut j = 0;
+    while j < m {
+        let t = h.deliveries[j];
+        mwhs[j] = t.mwh as u64;
+        j += 1;
+    }
+    let blank = open(Plant::Fixed { g: 0 });
+    let mut states = [blank; 32];
+    let mut a = 0;
+    while a < 32 {
+        let s = h.sources[a];
+        let p = s.plant;
+        states[a] = open(p);
+        a += 1;
+    }
+    let mut step: [u64; 32] = [0; 32];
+    let mut down: [u64; 32] = [0; 32];
+    let mut room: [u64; 32] = [0; 32];
+    let mut above: [u64; 32] = [0; 32];
+    let mut head: [u64; 32] = [0; 32];
+    let mut b = 0;
+    while b < n {
+        let s = states[b];
+        let p = s.plant;
+        step[b] = shift::step_of(p);
+        group::first::renew(&mut down, &mut room, &mut above, &mut head, b, s);
+        b += 1;
+    }
     let mut x = highest(numbers, h.ndeliveries, 1000);
     while 0 < x {
         let number = x - 1;
         let k = h.ndirects;
-        let before = end.states;
-        let mut after = before;
+        let mut sizes: [u64; 128] = [0; 128];
+        let mut minus: [bool; 128] = [false; 128];
         let mut took: u64 = 0;
         let mut q = 0;
         while q < k {
@@ -171,30 +184,62 @@ fn take_turns(
             let delivery = line.delivery;
             let its = numbers[delivery];
             if its.0 == number {
-                let s = after[source];
+                let s = states[source];
                 let t = group::allocate(s, line);
                 took += (t.d - s.d) as u64;
-                after[source] = t;
+                members::add_direct(&mut sizes, source, s, t);
+                states[source] = t;
+                group::first::renew(&mut down, &mut room, &mut above, &mut head, source, t);
             }
             q += 1;
         }
         let total = members::total_of(&mwhs, h.ndeliveries, numbers, number);
-        end = group::settle(InternalSequence(number), n, total, took, after, by_price);
-        let verdict = end.verdict;
-        let Verdict::Done = verdict else {
-            return end;
-        };
-        let mut sizes: [u64; 128] = [0; 128];
-        let mut minus: [bool; 128] = [false; 128];
-        let mut i = 0;
-        while i < n {
-            let s = before[i];
-            let t = after[i];
-            let u = end.states[i];
-            if members::takes(s, t, u) {
-                members::set_source(&mut sizes, &mut minus, i, s, t, u);
+        let up = total < took;
+        let rest = group::distance(total, took);
+        let mut taken: [u64; 32] = [0; 32];
+        let enough = group::first::take_first(
+            by_price,
+            up,
+            &step,
+            &down,
+            &room,
+            &above,
+            &head,
+            n,
+            rest,
+            &mut taken,
+        );
+        if enough {
+            let mut i = 0;
+            while i < n {
+                let m = taken[i];
+                if 0 < m {
+                    let t = states[i];
+                    let u = shift::shift_one(up, t, m);
+                    members::set_moved(&mut sizes, &mut minus, i, t, u);
+                    states[i] = u;
+                    group::first::renew(&mut down, &mut room, &mut above, &mut head, i, u);
+                }
+                i += 1;
             }
-            i += 1;
+        } else {
+            let end = group::settle(InternalSequence(number), n, total, took, states, by_price);
+            let verdict = end.verdict;
+            let Verdict::Done = verdict else {
+                return end;
+            };
+            let after = end.states;
+            set_all(&mut sizes, &mut minus, states, after, n);
+            states = after;
+            group::first::line_up(
+                states,
+                n,
+                &mut step,
+                &mut down,
+                &mut room,
+                &mut above,
+                &mut head,
+            );
         }
         members::share_rows(
             cells,
@@ -209,7 +254,10 @@ fn take_turns(
         );
         x = highest(numbers, h.ndeliveries, number);
     }
-    end
+    Settled {
+        verdict: Verdict::Done,
+        states: states,
+    }
 }
 
 fn run(h: Hour, out: &mut [i64], by_price: bool) -> Reconstructed

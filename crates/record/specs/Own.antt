@@ -1,19 +1,21 @@
 -- Document 01, "hour record that no deck gives" (15), as tests of the record's own entries in turn: each line let through as a deck's would be, blanks after the counts, 10 and 11.
 use mathlib.Core.Bool.{Bool, true, false, not, _&&_}
 use mathlib.Core.List.{List}
-use Prim.Native.Nat.{ℕ, zero, suc, _+_}
+use mathlib.Core.Path.{_≡_}
+use Prim.Native.Nat.{ℕ, zero, suc, _+_, _<_, _≤_}
 use lib.Dec.{leb, ltb, eqb}
-use lib.ListN.{getD, set, replicate}
+use lib.ListN.{length, getD, set, replicate}
 use Rattle.rules.specs.Words.{allTo}
 use Rattle.rules.specs.Group.{noDirect}
 use Rattle.rules.specs.Sequences.{noDelivery}
 use Rattle.rules.specs.Record.{noSource}
 use Rattle.rules.specs.Reading.{finished}
+use Rattle.rules.specs.declared.Plant.{Plant}
 use Rattle.rules.specs.declared.Source.{Source}
 use Rattle.rules.specs.declared.Delivery.{Delivery}
 use Rattle.rules.specs.declared.Direct.{Direct}
 use Rattle.rules.specs.declared.Hour.{Hour}
-use Rattle.entries.specs.Shape.{ownLabel, restBlank}
+use Rattle.entries.specs.Shape.{ownLabel, sourceBlank, deliveryBlank, directBlank}
 use Rattle.ranges.specs.Inside.{plantInside, deliveryInside, directInside, lossesInside}
 use Rattle.hour.specs.Keys.{keyOf}
 use Rattle.hour.specs.Tried.{verdictOf, countsOf, sourceTried, deliveryTried, Tables, unitHigh, basisCode, belowMost, codeLeaves}
@@ -21,7 +23,6 @@ use Rattle.hour.specs.declared.Key.{Key}
 use Rattle.hour.specs.declared.Counts.{Counts}
 use Rattle.hour.specs.declared.Verdict.{Verdict}
 use Rattle.hour.specs.declared.Verdict.the-variants.{Accepted, Refused}
-use Rattle.record.specs.declared.SourceHighs.{SourceHighs}
 
 abbrev pub accepts : Verdict → Bool
 accepts Accepted = true
@@ -84,17 +85,22 @@ tablesTo h i j k =
 abbrev pub counts : ℕ → ℕ → ℕ → Counts
 counts i j k = record { sources = i; deliveries = j; directs = k }
 
--- a source after i others
+-- a source after i others: what the rules say, and its label
+abbrev pub sourceRuled : ℕ → Plant → Key → List ℕ → List ℕ → Bool
+sourceRuled i p key lo hi = accepts (verdictOf (sourceTried (counts i 0 0) (plantInside p) p key lo hi))
+
 unfoldable pub sourceOwn : ℕ → Source → Key → List ℕ → List ℕ → Bool
-sourceOwn i x key lo hi = ownLabel (x .label) && accepts (verdictOf (sourceTried (counts i 0 0) (plantInside (x .plant)) (x .plant) key lo hi))
+sourceOwn i x key lo hi = ownLabel (x .label) && sourceRuled i (x .plant) key lo hi
 
 abbrev pub sourceOwnAt : List Source → ℕ → Bool
 sourceOwnAt sources i = sourceOwn i (getD sources i noSource) (sourceKey sources i) (slosTo sources i) (shisTo sources i)
 
 -- a delivery after n sources and j others
+abbrev pub deliveryRuled : ℕ → ℕ → Delivery → Key → List ℕ → List ℕ → Bool
+deliveryRuled n j x key lo hi = accepts (verdictOf (deliveryTried (counts n j 0) (deliveryInside (x .sequence .0) (x .kind) (x .block) (x .mwh)) key lo hi))
+
 unfoldable pub deliveryOwn : ℕ → ℕ → Delivery → Key → List ℕ → List ℕ → Bool
-deliveryOwn n j x key lo hi =
-    ownLabel (x .label) && accepts (verdictOf (deliveryTried (counts n j 0) (deliveryInside (x .sequence .0) (x .kind) (x .block) (x .mwh)) key lo hi))
+deliveryOwn n j x key lo hi = ownLabel (x .label) && deliveryRuled n j x key lo hi
 
 abbrev pub deliveryOwnAt : ℕ → List Delivery → ℕ → Bool
 deliveryOwnAt n deliveries j = deliveryOwn n j (getD deliveries j noDelivery) (deliveryKey deliveries j) (tlosTo deliveries j) (thisTo deliveries j)
@@ -115,24 +121,23 @@ directOwnIn n m directs high k = directOwn (counts n m k) (getD directs k noDire
 abbrev pub directOwnAt : Hour → ℕ → Bool
 directOwnAt h k = directOwnIn (h .nsources) (h .ndeliveries) (h .directs) (highsTo (h .sources) (h .nsources)) k
 
--- all sources, with their highs; zeros where one is refused
-abbrev pub keptIf : Bool → List ℕ → List ℕ
-keptIf true xs = xs
-keptIf false xs = zeros
-
-unfoldable pub sourcesGiven : List Source → ℕ → SourceHighs
-sourcesGiven sources n = let all = allTo (sourceOwnAt sources) n in record { given = all; high = keptIf all (highsTo sources n) }
-
-abbrev pub noSources : SourceHighs
-noSources = record { given = false; high = zeros }
-
-unfoldable pub linesGiven : Hour → Bool
-linesGiven h = allTo (sourceOwnAt (h .sources)) (h .nsources) && (allTo (deliveryOwnAt (h .nsources) (h .deliveries)) (h .ndeliveries) && allTo (directOwnAt h) (h .ndirects))
-
 -- All together.
 
 unfoldable pub fewEntries : Counts → Bool
 fewEntries n = leb (n .sources) 32 && (leb (n .deliveries) 32 && leb (n .directs) 32)
 
-unfoldable pub own : Hour → Bool
-own h = fewEntries (countsOf h) && (lossesInside (h .losses) && (linesGiven h && (restBlank h && accepts (verdictOf (finished h)))))
+-- 32 places, and blanks in those past the count
+pub record Rest {A : Type 0} (blank : A → Bool) (default : A) (xs : List A) (n : ℕ) : Type 0 where
+  pub size : length xs ≡ 32
+  pub blanks : (i : ℕ) → n ≤ i → i < 32 → blank (getD xs i default) ≡ true
+
+pub record Passes (h : Hour) : Type 0 where
+  pub few : fewEntries (countsOf h) ≡ true
+  pub losses : lossesInside (h .losses) ≡ true
+  pub sources : allTo (sourceOwnAt (h .sources)) (h .nsources) ≡ true
+  pub deliveries : allTo (deliveryOwnAt (h .nsources) (h .deliveries)) (h .ndeliveries) ≡ true
+  pub directs : allTo (directOwnAt h) (h .ndirects) ≡ true
+  pub sources-rest : Rest sourceBlank noSource (h .sources) (h .nsources)
+  pub deliveries-rest : Rest deliveryBlank noDelivery (h .deliveries) (h .ndeliveries)
+  pub directs-rest : Rest directBlank noDirect (h .directs) (h .ndirects)
+  pub done : accepts (verdictOf (finished h)) ≡ true

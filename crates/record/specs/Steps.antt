@@ -1,5 +1,5 @@
 -- The loops over a record's own entries: their steps and their ends.
-use mathlib.Core.Path.{_≡_, refl, ap, _∙_}
+use mathlib.Core.Path.{_≡_, refl, ap, sym, _∙_}
 use mathlib.Core.Bool.{Bool, true, false, not}
 use mathlib.Core.List.{List, []}
 use Prim.Native.Nat.{ℕ, zero, suc, _+_, _*_, _<_, _≤_}
@@ -27,37 +27,37 @@ use Rattle.ranges.specs.Inside.{directInside}
 use Rattle.hour.specs.Tried.{Few, basisCode}
 use Rattle.hour.specs.declared.Key.{Key}
 use Rattle.hour.specs.declared.Counts.{Counts}
-use Rattle.entries.specs.Loops.{allTo-fails}
+use Rattle.entries.specs.Shape.{ownLabel}
 use Rattle.record.specs.Own as own
-use Rattle.record.specs.Own.{highsTo, basedTo, percentsTo, sourceOwn, sourceOwnAt, deliveryOwn, keptIf, directRuled, directOwn, directOwnIn, noSources, sourcesGiven, fewEntries}
+use Rattle.record.specs.Own.{basedTo, percentsTo, sourceRuled, sourceOwn, deliveryRuled, deliveryOwn, directRuled, directOwn, directOwnIn, fewEntries}
 
 -- Sources and deliveries.
 
-pub source-same : (i : ℕ) (x : Source) (key key′ : Key) (lo lo′ hi hi′ : List ℕ) → key ≡ key′ → lo ≡ lo′ → hi ≡ hi′
-    → sourceOwn i x key lo hi ≡ sourceOwn i x key′ lo′ hi′
-source-same i x key key′ lo lo′ hi hi′ p q r = rw (p, q, r)
+module _ (i : ℕ) (x : Source) (key : Key) (lo hi : List ℕ) where
+  pub source-unlabelled : ownLabel (x .label) ≡ false → sourceOwn i x key lo hi ≡ false
+  unfolding own.sourceOwn
+  source-unlabelled e = rw e
 
-pub delivery-same : (n j : ℕ) (x : Delivery) (key key′ : Key) (lo lo′ hi hi′ : List ℕ) → key ≡ key′ → lo ≡ lo′ → hi ≡ hi′
-    → deliveryOwn n j x key lo hi ≡ deliveryOwn n j x key′ lo′ hi′
-delivery-same n j x key key′ lo lo′ hi hi′ p q r = rw (p, q, r)
+  pub source-labelled : (r : Bool) (key′ : Key) (lo′ hi′ : List ℕ) → ownLabel (x .label) ≡ true → key′ ≡ key → lo′ ≡ lo → hi′ ≡ hi → r ≡ sourceRuled i (x .plant) key′ lo′ hi′
+      → sourceOwn i x key lo hi ≡ r
+  unfolding own.sourceOwn
+  source-labelled r key′ lo′ hi′ e k l h q = rw (e, ← k, ← l, ← h) (sym q)
 
-module _ (sources : List Source) (n : ℕ) where
-  pub sources-failed : (i : ℕ) → i < n → sourceOwnAt sources i ≡ false → noSources ≡ sourcesGiven sources n
-  unfolding own.sourcesGiven
-  sources-failed i l e = rw (allTo-fails (sourceOwnAt sources) n i l e)
+module _ (n j : ℕ) (x : Delivery) (key : Key) (lo hi : List ℕ) where
+  pub delivery-unlabelled : ownLabel (x .label) ≡ false → deliveryOwn n j x key lo hi ≡ false
+  unfolding own.deliveryOwn
+  delivery-unlabelled e = rw e
 
-  pub sources-all : (high : List ℕ) → allTo (sourceOwnAt sources) n ≡ true → high ≡ highsTo sources n → record { given = true; high = high } ≡ sourcesGiven sources n
-  unfolding own.sourcesGiven
-  sources-all high e p = rw (e, p)
-
-pub kept-told : (b : Bool) (xs ys : List ℕ) → ys ≡ keptIf b xs → b ≡ true → ys ≡ xs
-kept-told b xs ys e q = e ∙ ap (λ (c : Bool). keptIf c xs) q
+  pub delivery-labelled : (r : Bool) (key′ : Key) (lo′ hi′ : List ℕ) → ownLabel (x .label) ≡ true → key′ ≡ key → lo′ ≡ lo → hi′ ≡ hi → r ≡ deliveryRuled n j x key′ lo′ hi′
+      → deliveryOwn n j x key lo hi ≡ r
+  unfolding own.deliveryOwn
+  delivery-labelled r key′ lo′ hi′ e k l h q = rw (e, ← k, ← l, ← h) (sym q)
 
 -- D entries.
 
-pub direct-same : (n : Counts) (x : Direct) (high based based′ percents percents′ : List ℕ) → based ≡ based′ → percents ≡ percents′
-    → directOwn n x high based percents ≡ directOwn n x high based′ percents′
-direct-same n x high based based′ percents percents′ p q = rw (p, q)
+pub direct-same : (n : Counts) (x : Direct) (high high′ based based′ percents percents′ : List ℕ) → high ≡ high′ → based ≡ based′ → percents ≡ percents′
+    → directOwn n x high based percents ≡ directOwn n x high′ based′ percents′
+direct-same n x high high′ based based′ percents percents′ p q r = rw (p, q, r)
 
 -- what an entry that is let through has shown
 pub record DirectOwn (n : Counts) (x : Direct) (high based percents : List ℕ) : Type 0 where
@@ -129,3 +129,9 @@ few-from n e =
 pub few-to : (n : Counts) → Few n → fewEntries n ≡ true
 unfolding own.fewEntries
 few-to n f = rw (le-leb (n .sources) 32 (f .sources), le-leb (n .deliveries) 32 (f .deliveries), le-leb (n .directs) 32 (f .directs))
+
+-- Blanks.
+
+-- what holds from n on, before i, and at i
+pub from-on : (p : ℕ → Bool) (n i : ℕ) → ((k : ℕ) → n ≤ k → k < i → p k ≡ true) → p i ≡ true → (k : ℕ) → n ≤ k → k < i + 1 → p k ≡ true
+from-on p n i f e k l m = elim (decLt k i) [ yes s ↦ f k l s | no s ↦ (let q : k ≡ i = omega arith in ap p q ∙ e) ]

@@ -2,23 +2,16 @@
 // The contract of valid cites rules' Writing; the others cite Own, the test entry by entry.
 ghost use mathlib.Core.Path.{_≡_};
 ghost use Prim.Native.Nat.{_≤_, _<_};
-ghost use Rattle.rules.specs.Words.{allTo};
 ghost use Rattle.rules.specs.Writing as writing;
 ghost use Rattle.hour.specs.Tried.{Few};
-ghost use Rattle.record.specs.Own.{sourceOwn, deliveryOwn, deliveryOwnAt, directOwn, directOwnIn, noSources, sourcesGiven, fewEntries};
+ghost use Rattle.record.specs.Own.{sourceRuled, deliveryRuled, directOwn, fewEntries};
 use hour::Counts;
 use hour::Key;
 use hour::Verdict;
 use rules::Delivery;
 use rules::Direct;
 use rules::Hour;
-use rules::Source;
-
-// Whether every source was let through, and the units' highs.
-pub struct SourceHighs {
-    pub given: bool,
-    pub high: [u32; 32],
-}
+use rules::Plant;
 
 fn wide(x: u32) -> u64
     ensures { λ r. ⌜ (r ≡ x) × (r < 4294967296) ⌝ }
@@ -26,16 +19,11 @@ fn wide(x: u32) -> u64
     x as u64
 }
 
-// A source after i others.
-fn source_given(i: usize, x: Source, key: Key, lo: &[u64; 32], hi: &[u64; 32]) -> bool
+// A source with a label, after i others.
+fn source_given(i: usize, p: Plant, key: Key, lo: &[u64; 32], hi: &[u64; 32]) -> bool
     requires { ⌜ i ≤ 32 ⌝ }
-    ensures { λ r. ⌜ r ≡ sourceOwn i x key (now (lo .entry)) (now (hi .entry)) ⌝ }
+    ensures { λ r. ⌜ r ≡ sourceRuled i p key (now (lo .entry)) (now (hi .entry)) ⌝ }
 {
-    let l = x.label;
-    if !entries::is_label(l) {
-        return false;
-    }
-    let p = x.plant;
     let n = Counts {
         sources: i,
         deliveries: 0,
@@ -47,48 +35,11 @@ fn source_given(i: usize, x: Source, key: Key, lo: &[u64; 32], hi: &[u64; 32]) -
     true
 }
 
-fn no_sources() -> SourceHighs
-    ensures { λ r. ⌜ r ≡ noSources ⌝ }
-{
-    SourceHighs {
-        given: false,
-        high: [0u32; 32],
-    }
-}
-
-fn sources_given(sources: [Source; 32], n: usize) -> SourceHighs
-    requires { ⌜ n ≤ 32 ⌝ }
-    ensures { λ r. ⌜ r ≡ sourcesGiven sources n ⌝ }
-{
-    let mut lo = [0u64; 32];
-    let mut hi = [0u64; 32];
-    let mut high = [0u32; 32];
-    let mut i: usize = 0;
-    while i < n {
-        let x = sources[i];
-        let l = x.label;
-        let k = hour::key_of(l);
-        if !source_given(i, x, k, &lo, &hi) {
-            return no_sources();
-        }
-        let p = x.plant;
-        lo[i] = k.lo;
-        hi[i] = k.hi;
-        high[i] = hour::unit_high(p);
-        i += 1;
-    }
-    SourceHighs { given: true, high }
-}
-
-// A delivery after n sources and j others.
+// A delivery with a label, after n sources and j others.
 fn delivery_given(n: usize, j: usize, x: Delivery, key: Key, lo: &[u64; 32], hi: &[u64; 32]) -> bool
     requires { ⌜ (n ≤ 32) × (j ≤ 32) ⌝ }
-    ensures { λ r. ⌜ r ≡ deliveryOwn n j x key (now (lo .entry)) (now (hi .entry)) ⌝ }
+    ensures { λ r. ⌜ r ≡ deliveryRuled n j x key (now (lo .entry)) (now (hi .entry)) ⌝ }
 {
-    let l = x.label;
-    if !entries::is_label(l) {
-        return false;
-    }
     let s = x.sequence;
     let ranged = ranges::delivery_in_range(s.0, x.kind, x.block, x.mwh);
     let c = Counts {
@@ -99,28 +50,6 @@ fn delivery_given(n: usize, j: usize, x: Delivery, key: Key, lo: &[u64; 32], hi:
     let Verdict::Accepted = hour::take_delivery(c, ranged, key, lo, hi) else {
         return false;
     };
-    true
-}
-
-// The first m deliveries, after n sources.
-fn deliveries_given(deliveries: [Delivery; 32], n: usize, m: usize) -> bool
-    requires { ⌜ (n ≤ 32) × (m ≤ 32) ⌝ }
-    ensures { λ r. ⌜ r ≡ allTo (deliveryOwnAt n deliveries) m ⌝ }
-{
-    let mut lo = [0u64; 32];
-    let mut hi = [0u64; 32];
-    let mut i: usize = 0;
-    while i < m {
-        let x = deliveries[i];
-        let l = x.label;
-        let k = hour::key_of(l);
-        if !delivery_given(n, i, x, k, &lo, &hi) {
-            return false;
-        }
-        lo[i] = k.lo;
-        hi[i] = k.hi;
-        i += 1;
-    }
     true
 }
 
@@ -158,33 +87,6 @@ fn direct_given(
     wide(percents[s]) + wide(x.percent) <= 100
 }
 
-fn directs_given(directs: [Direct; 32], n: Counts, high: &[u32; 32]) -> bool
-    requires { ⌜ Few n ⌝ }
-    ensures { λ r. ⌜ r ≡ allTo (directOwnIn (n .sources) (n .deliveries) directs (now (high .entry))) (n .directs) ⌝ }
-{
-    let m = n.directs;
-    let mut based = [0u64; 32];
-    let mut percents = [0u32; 32];
-    let mut i: usize = 0;
-    while i < m {
-        let x = directs[i];
-        let c = Counts {
-            sources: n.sources,
-            deliveries: n.deliveries,
-            directs: i,
-        };
-        if !direct_given(c, x, high, &based, &percents) {
-            return false;
-        }
-        let b = x.basis;
-        let s = x.source;
-        based[s] = hour::basis_code(b);
-        percents[s] = percents[s] + x.percent;
-        i += 1;
-    }
-    true
-}
-
 fn few_entries(n: Counts) -> bool
     ensures { λ r. ⌜ r ≡ fewEntries n ⌝ }
 {
@@ -197,7 +99,8 @@ fn few_entries(n: Counts) -> bool
     n.directs <= 32
 }
 
-// Whether some deck gives the record (15).
+// Whether some deck gives the record (15): each entry is let through after those before it, the places past the counts are blank, and 10 and 11 are kept.
+// It owns the loops, so that the hour is not copied.
 pub fn valid(h: Hour) -> bool
     ensures { λ r. ⌜ r ≡ writing.valid h ⌝ }
 {
@@ -212,28 +115,82 @@ pub fn valid(h: Hour) -> bool
     if !ranges::losses_in_range(h.losses) {
         return false;
     }
-    let sources = h.sources;
-    let deliveries = h.deliveries;
-    let directs = h.directs;
-    let s = sources_given(sources, n.sources);
-    if !s.given {
-        return false;
+    let mut slo = [0u64; 32];
+    let mut shi = [0u64; 32];
+    let mut high = [0u32; 32];
+    let mut i: usize = 0;
+    while i < n.sources {
+        let x = h.sources[i];
+        let l = x.label;
+        if !entries::is_label(l) {
+            return false;
+        }
+        let k = hour::key_of(l);
+        let p = x.plant;
+        if !source_given(i, p, k, &slo, &shi) {
+            return false;
+        }
+        slo[i] = k.lo;
+        shi[i] = k.hi;
+        high[i] = hour::unit_high(p);
+        i += 1;
     }
-    if !deliveries_given(deliveries, n.sources, n.deliveries) {
-        return false;
+    let mut tlo = [0u64; 32];
+    let mut thi = [0u64; 32];
+    let mut j: usize = 0;
+    while j < n.deliveries {
+        let x = h.deliveries[j];
+        let l = x.label;
+        if !entries::is_label(l) {
+            return false;
+        }
+        let k = hour::key_of(l);
+        if !delivery_given(n.sources, j, x, k, &tlo, &thi) {
+            return false;
+        }
+        tlo[j] = k.lo;
+        thi[j] = k.hi;
+        j += 1;
     }
-    let high = s.high;
-    if !directs_given(directs, n, &high) {
-        return false;
+    let mut based = [0u64; 32];
+    let mut percents = [0u32; 32];
+    let mut q: usize = 0;
+    while q < n.directs {
+        let x = h.directs[q];
+        let c = Counts {
+            sources: n.sources,
+            deliveries: n.deliveries,
+            directs: q,
+        };
+        if !direct_given(c, x, &high, &based, &percents) {
+            return false;
+        }
+        let b = x.basis;
+        let s = x.source;
+        based[s] = hour::basis_code(b);
+        percents[s] = percents[s] + x.percent;
+        q += 1;
     }
-    if !entries::sources_blank(sources, n.sources) {
-        return false;
+    while i < 32 {
+        let x = h.sources[i];
+        if !entries::is_blank_source(x) {
+            return false;
+        }
+        i += 1;
     }
-    if !entries::deliveries_blank(deliveries, n.deliveries) {
-        return false;
+    while j < 32 {
+        let x = h.deliveries[j];
+        if !entries::is_blank_delivery(x) {
+            return false;
+        }
+        j += 1;
     }
-    if !entries::directs_blank(directs, n.directs) {
-        return false;
+    while q < 32 {
+        let x = h.directs[q];
+        if !entries::is_blank_direct(x) {
+            return false;
+        }
+        q += 1;
     }
     let Verdict::Accepted = hour::finish(h) else {
         return false;

@@ -32,6 +32,12 @@ unitLevel (U u) m = m
 unitLevel (P g rate) m = 0
 unitLevel (F g) m = 0
 
+-- how far its price moves with each MWh
+abbrev pub stepOf : Plant → ℕ
+stepOf (U u) = 2 * u .curve .c * u .curve .r
+stepOf (P g rate) = 0
+stepOf (F g) = 0
+
 pub record Ready (s : Running) : Type 0 where
   pub sound : Sound s
   pub small : Small s
@@ -69,35 +75,35 @@ pub curve-numbers : (c : HeatCurve) → CurveSmall c → Numbers (c .b) (c .c) (
 curve-numbers c l = record { b-small = omega (arith, l .b); c-small = l .c; r-small = l .r }
 
 -- of one price, any level will do
-flat-down : (f : ℕ → ℕ) (x level level′ one step span inv cap : ℕ) → ((m : ℕ) → f m ≡ x) → Lined false f level one step span inv cap → Lined false f level′ one step span inv cap
-flat-down f x level level′ one step span inv cap h s = record {
-  source = s .source;
+flat-down : (f : ℕ → ℕ) (x level level′ one step cap : ℕ) → ((m : ℕ) → f m ≡ x) → Lined false f level one step cap → Lined false f level′ one step cap
+flat-down f x level level′ one step cap h s = record {
+  falls = s .falls;
   merits = λ k l. s .merits k l ∙ h (level - k) ∙ sym (h (level′ - k));
   prices = λ k l. omega (arith, s .prices k l, h (level - k), h (level′ - k));
 }
 
-flat-up : (f : ℕ → ℕ) (x level level′ one step span inv cap : ℕ) → ((m : ℕ) → f m ≡ x) → Lined true f level one step span inv cap → Lined true f level′ one step span inv cap
-flat-up f x level level′ one step span inv cap h s = record {
-  source = s .source;
+flat-up : (f : ℕ → ℕ) (x level level′ one step cap : ℕ) → ((m : ℕ) → f m ≡ x) → Lined true f level one step cap → Lined true f level′ one step cap
+flat-up f x level level′ one step cap h s = record {
+  falls = s .falls;
   merits = λ k l. omega (arith, s .merits k l, h (level + k + 1), h (level′ + k + 1));
   prices = λ k l. omega (arith, s .prices k l, h (level + k + 1), h (level′ + k + 1));
 }
 
-flat : (up : Bool) (f : ℕ → ℕ) (x level level′ one step span inv cap : ℕ) → ((m : ℕ) → f m ≡ x) → Lined up f level one step span inv cap → Lined up f level′ one step span inv cap
+flat : (up : Bool) (f : ℕ → ℕ) (x level level′ one step cap : ℕ) → ((m : ℕ) → f m ≡ x) → Lined up f level one step cap → Lined up f level′ one step cap
 flat false = flat-down
 flat true = flat-up
 
-module _ (up : Bool) {one step span inv cap : ℕ} where
-  pub unit-lined : (u : Unit) (level : ℕ) → Lined up (linePrice (u .curve .b) (u .curve .c) (u .curve .r)) level one step span inv cap → Lined up (price (U u)) level one step span inv cap
-  unit-lined u level = lined-as up _ (price (U u)) level one step span inv cap (unit-price u)
+module _ (up : Bool) {one step cap : ℕ} where
+  pub unit-lined : (u : Unit) (level : ℕ) → Lined up (linePrice (u .curve .b) (u .curve .c) (u .curve .r)) level one step cap → Lined up (price (U u)) level one step cap
+  unit-lined u level = lined-as up _ (price (U u)) level one step cap (unit-price u)
 
-  pub purchase-lined : (g rate level level′ : ℕ) → Lined up (linePrice (1000 * rate) 0 1) level one step span inv cap → Lined up (price (P g rate)) level′ one step span inv cap
+  pub purchase-lined : (g rate level level′ : ℕ) → Lined up (linePrice (1000 * rate) 0 1) level one step cap → Lined up (price (P g rate)) level′ one step cap
   purchase-lined g rate level level′ s =
-      flat up (price (P g rate)) (rate * 2000) level level′ one step span inv cap (λ m. refl) (lined-as up _ (price (P g rate)) level one step span inv cap (purchase-price g rate) s)
+      flat up (price (P g rate)) (rate * 2000) level level′ one step cap (λ m. refl) (lined-as up _ (price (P g rate)) level one step cap (purchase-price g rate) s)
 
-  pub fixed-lined : (g level level′ : ℕ) → Lined up (linePrice 0 0 0) level one step span inv cap → Lined up (price (F g)) level′ one step span inv cap
+  pub fixed-lined : (g level level′ : ℕ) → Lined up (linePrice 0 0 0) level one step cap → Lined up (price (F g)) level′ one step cap
   fixed-lined g level level′ s =
-      flat up (price (F g)) 0 level level′ one step span inv cap (λ m. refl) (lined-as up _ (price (F g)) level one step span inv cap (fixed-price g) s)
+      flat up (price (F g)) 0 level level′ one step cap (λ m. refl) (lined-as up _ (price (F g)) level one step cap (fixed-price g) s)
 
 -- what an engine's line asks for, of each plant
 module _ (s : Running) (cap : ℕ) (r : Ready s) where

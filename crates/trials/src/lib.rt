@@ -1,6 +1,7 @@
 // For tests from C: a deck's hour reconstructed into lent cells by either rule and written anew as a deck, also from a record that is spoiled in one field;
-// and one group for timing.
+// and for timing one hour and one group.
 // An answer is the number of cells or bytes, or a refusal's number times 65,536 and its place.
+mod rebuilding;
 mod settling;
 
 use hour::Verdict;
@@ -308,6 +309,29 @@ pub extern "C" fn trial_spoiled_written(
 ) -> u64 {
     let x = deck::read(deck);
     written(spoiled(x.hour, field, at % 32), out)
+}
+
+// The hour's cells so many times over: 0 where the deck is refused.
+#[no_mangle]
+pub extern "C" fn trial_price(deck: &[u8], out: &mut [i64], times: usize) -> u64 {
+    let x = deck::read(deck);
+    let v = x.verdict;
+    let h = x.hour;
+    match v {
+        Verdict::Accepted => rebuilding::rebuild_often(h, out, true, times),
+        Verdict::Refused(_) => 0,
+    }
+}
+
+#[no_mangle]
+pub extern "C" fn trial_plain(deck: &[u8], out: &mut [i64], times: usize) -> u64 {
+    let x = deck::read(deck);
+    let v = x.verdict;
+    let h = x.hour;
+    match v {
+        Verdict::Accepted => rebuilding::rebuild_often(h, out, false, times),
+        Verdict::Refused(_) => 0,
+    }
 }
 
 // One group: 0 where the deck or the group is refused.

@@ -1,10 +1,31 @@
 // For timing: one group's remainder from the states at the hour's start, over and over.
+ghost use mathlib.Core.List.{map};
+ghost use mathlib.Core.Path.{_≡_};
+ghost use Rattle.rules.specs.Group.{opened};
 ghost use Rattle.shift.specs.Ready.{AllReady};
 use group::Settled;
 use group::Verdict;
 use rules::Hour;
 use rules::InternalSequence;
+use rules::Plant;
 use rules::Running;
+use rules::Source;
+
+// Every source at the hour's start.
+fn open_all(sources: [Source; 32]) -> [Running; 32]
+    ensures { λ r. ⌜ r ≡ map (λ s. opened (s .plant)) sources ⌝ }
+{
+    let blank = reconstruct::open(Plant::Fixed { g: 0 });
+    let mut states = [blank; 32];
+    let mut i = 0;
+    while i < 32 {
+        let s = sources[i];
+        let p = s.plant;
+        states[i] = reconstruct::open(p);
+        i += 1;
+    }
+    states
+}
 
 // One more than the sum of one level of each result, of each source in turn, so that no result can be left out.
 fn repeat(
@@ -55,7 +76,7 @@ pub fn settle_often(
         return 0;
     }
     let sources = h.sources;
-    let states = reconstruct::open_all(sources);
+    let states = open_all(sources);
     let end = group::settle(
         InternalSequence(0),
         h.nsources,

@@ -5,25 +5,25 @@ use Prim.Native.Nat.{_<_, _-_}
 use native.Mathlib.Omega.{arith}
 use Rattle.dispatch.proofs.Levels.{left-small, highest-choice, going-more}
 use Rattle.dispatch.proofs.Taking.{taken-all, taken-none, choice-there}
-use Rattle.dispatch.specs.Taken.{table-sources, Going}
+use Rattle.dispatch.specs.Taken.{Going}
 use borrow.Author.Needs.{needs}
 use Rattle.dispatch.proofs.plain.Statement.{statement}
 use Rattle.dispatch.proofs.plain.Tie as tie
 
 abbrev Inv-loop : tie.InvT-loop
-Inv-loop up one step span inv cap n total taken₀ left₀ moved₀ taken left moved = Going up one step cap n total moved taken left
+Inv-loop up one step cap n total taken₀ left₀ moved₀ taken left moved = Going up one step cap n total moved taken left
 
 abbrev μ-loop : tie.MeasureT-loop
-μ-loop up one step span inv cap n total taken₀ left₀ moved₀ taken left moved = total - moved
+μ-loop up one step cap n total taken₀ left₀ moved₀ taken left moved = total - moved
 
 in-range : (c : tie.After-choose Inv-loop μ-loop) → c .choose .result < c .before .before .before .before .before .before .before .args .n
-in-range c = choice-there _ _ _ _ _ _ _ _ _ (c .before .before .before .loop .inv .taken) (c .before .before .loop-test .taken) (c .before .before .before .before .before .before .before .pre .1) (highest-choice (c .before .before .before .loop .inv .left) (c .choose .ensures))
+in-range c = choice-there _ _ _ _ _ _ _ _ _ (c .before .before .before .loop .inv .taken) (c .before .before .loop-test .taken) (c .before .before .before .before .before .before .before .pre .1 .0) (highest-choice (c .before .before .before .loop .inv .left) (c .choose .ensures))
 
 find-left-requires : tie.Need-find-left-requires Inv-loop μ-loop
-find-left-requires c κs = (table-sources (c .before .before .pre .0), refl)
+find-left-requires c κs = (c .before .before .pre .0, refl)
 
 loop-holds : tie.Need-loop-holds Inv-loop μ-loop
-loop-holds c = record { within = omega arith; taken = taken-none _ _ _ _ _; left = c .find-left .ensures }
+loop-holds c = record { within = omega arith; taken = rw (c .before .before .before .pre .1 .1) (taken-none _ _ _ _ _); left = c .find-left .ensures }
 
 choose-requires : tie.Need-choose-requires Inv-loop μ-loop
 choose-requires c κs = (c .before .before .before .before .before .before .pre .0 .n-small, left-small (c .before .before .loop .inv .left))
@@ -31,46 +31,46 @@ choose-requires c κs = (c .before .before .before .before .before .before .pre 
 mul-k : tie.Need-mul-k Inv-loop μ-loop
 mul-k c = search needs
 
-array-read-k : tie.Need-array-read-k Inv-loop μ-loop
-array-read-k c = omega (arith, in-range c, c .before .before .before .before .before .before .before .pre .0 .n-small)
+element-copy-out-k : tie.Need-element-copy-out-k Inv-loop μ-loop
+element-copy-out-k c = omega (arith, in-range c, c .before .before .before .before .before .before .before .pre .0 .n-small)
 
 add-k : tie.Need-add-k Inv-loop μ-loop
 add-k c =
-    let l = in-range c in
-    omega (arith, highest-choice (c .before .before .before .loop .inv .left) (c .choose .ensures) .some l .room, c .before .before .before .before .before .before .before .pre .0 .source _ l .falls .cap-small)
+    let l = in-range (c .before) in
+    omega (arith, highest-choice (c .before .before .before .before .loop .inv .left) (c .before .choose .ensures) .some l .room, c .before .before .before .before .before .before .before .before .pre .0 .falls _ l .cap-small)
 
 mul-taken : tie.Need-mul-taken Inv-loop μ-loop
 mul-taken c = search needs
 
-array-write-taken : tie.Need-array-write-taken Inv-loop μ-loop
-array-write-taken c = omega (arith, in-range c, c .before .before .before .before .before .before .before .pre .0 .n-small)
+element-write-taken : tie.Need-element-write-taken Inv-loop μ-loop
+element-write-taken c = omega (arith, in-range (c .before), c .before .before .before .before .before .before .before .before .pre .0 .n-small)
 
 mul-next : tie.Need-mul-next Inv-loop μ-loop
 mul-next c = search needs
 
 element-copy-out-next : tie.Need-element-copy-out-next Inv-loop μ-loop
-element-copy-out-next c = omega (arith, in-range c, c .before .before .before .before .before .before .before .pre .0 .n-small)
+element-copy-out-next c = omega (arith, in-range (c .before), c .before .before .before .before .before .before .before .before .pre .0 .n-small)
 
 mul-next-2 : tie.Need-mul-next-2 Inv-loop μ-loop
 mul-next-2 c = search needs
 
 element-copy-out-next-2 : tie.Need-element-copy-out-next-2 Inv-loop μ-loop
-element-copy-out-next-2 c = omega (arith, in-range (c .before), c .before .before .before .before .before .before .before .before .pre .0 .n-small)
+element-copy-out-next-2 c = omega (arith, in-range (c .before .before), c .before .before .before .before .before .before .before .before .before .pre .0 .n-small)
 
 mul-next-3 : tie.Need-mul-next-3 Inv-loop μ-loop
 mul-next-3 c = search needs
 
 element-copy-out-next-3 : tie.Need-element-copy-out-next-3 Inv-loop μ-loop
-element-copy-out-next-3 c = omega (arith, in-range (c .before .before), c .before .before .before .before .before .before .before .before .before .pre .0 .n-small)
+element-copy-out-next-3 c = omega (arith, in-range (c .before .before .before), c .before .before .before .before .before .before .before .before .before .before .pre .0 .n-small)
 
 next-requires : tie.Need-next-requires Inv-loop μ-loop
-next-requires c κs = c .before .before .before .before .before .before .before .before .before .before .pre .0 .source _ (in-range (c .before .before .before)) .falls
+next-requires c κs = c .before .before .before .before .before .before .before .before .before .before .before .pre .0 .falls _ (in-range (c .before .before .before .before))
 
 mul-left : tie.Need-mul-left Inv-loop μ-loop
 mul-left c = search needs
 
 array-write-left : tie.Need-array-write-left Inv-loop μ-loop
-array-write-left c = omega (arith, in-range (c .before .before .before .before), c .before .before .before .before .before .before .before .before .before .before .before .pre .0 .n-small)
+array-write-left c = omega (arith, in-range (c .before .before .before .before .before), c .before .before .before .before .before .before .before .before .before .before .before .before .pre .0 .n-small)
 
 add-moved : tie.Need-add-moved Inv-loop μ-loop
 add-moved c = search needs
@@ -80,9 +80,9 @@ loop-less c = search needs
 
 loop-again : tie.Need-loop-again Inv-loop μ-loop
 loop-again c =
-    let l = in-range (c .before .before .before .before) in
-    let d = highest-choice (c .before .before .before .before .before .before .before .loop .inv .left) (c .before .before .before .before .choose .ensures) in
-    going-more {rest = 1} (c .before .before .before .before .before .before .before .before .before .before .before .pre .0 .n-small) (c .before .before .before .before .before .before .before .loop .inv) l d (omega arith)
+    let l = in-range (c .before .before .before .before .before) in
+    let d = highest-choice (c .before .before .before .before .before .before .before .before .loop .inv .left) (c .before .before .before .before .before .choose .ensures) in
+    going-more {rest = 1} (c .before .before .before .before .before .before .before .before .before .before .before .before .pre .0 .n-small) (c .before .before .before .before .before .before .before .before .loop .inv) l d (omega arith)
     (record { some = omega arith; within = omega arith; room = omega (arith, d .some l .room); level = inr refl; full = λ m e. absurd (omega arith) })
     (c .next .ensures)
 
@@ -99,10 +99,10 @@ plain-spec =
     loop-holds
     choose-requires
     mul-k
-    array-read-k
+    element-copy-out-k
     add-k
     mul-taken
-    array-write-taken
+    element-write-taken
     mul-next
     element-copy-out-next
     mul-next-2

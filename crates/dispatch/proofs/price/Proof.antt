@@ -1,18 +1,26 @@
 -- `dispatch::price` meets its contract: what is taken of the rivals is what is taken of all.
 use mathlib.Core.Path.{refl}
+use Prim.Native.Nat.{ℕ}
 use native.Mathlib.Omega.{arith}
 use Rattle.dispatch.proofs.Places.{places-wider}
-use Rattle.dispatch.proofs.RivalsSuffice.{rivals-table, rivals-alone, alone-room, rivals-suffice}
-use Rattle.dispatch.specs.Taken.{table-sources}
+use Rattle.dispatch.proofs.RivalsSuffice.{rivals-sources, rivals-alone, alone-room, alone-taken, rivals-suffice}
+use Rattle.dispatch.specs.Rivals.{Alone, Places}
 use borrow.Author.Needs.{needs}
 use Rattle.dispatch.proofs.price.Statement.{statement}
 use Rattle.dispatch.proofs.price.Tie as tie
 
-bar-of-requires : tie.Need-bar-of-requires
-bar-of-requires c κs = table-sources (c .pre .0)
+-- a source has room for the total
+roomy : (c : tie.Else1) → let a = c .before .before .args in (i : ℕ) × Alone (a .one .now) (a .step .now) (a .cap .now) (a .n) (a .total) (c .before .bar-of .result) i
+roomy c = c .before .bar-of .ensures .some (omega (arith, c .if1 .left))
 
-take-best-requires : tie.Need-take-best-requires
-take-best-requires c κs = search needs
+placed : (c : tie.After-find-rivals) → Places 32 (c .find-rivals .last .1 .1 .1 .0) (c .find-rivals .result)
+placed c = places-wider (c .before .before .before .before .pre .0 .n-small) (c .find-rivals .ensures .placed)
+
+bar-of-requires : tie.Need-bar-of-requires
+bar-of-requires c κs = search needs
+
+take-scaled-requires : tie.Need-take-scaled-requires
+take-scaled-requires c κs = search needs
 
 returns : tie.Need-returns
 returns c = search needs
@@ -20,57 +28,64 @@ returns c = search needs
 find-rivals-requires : tie.Need-find-rivals-requires
 find-rivals-requires c κs = search needs
 
-gather-requires : tie.Need-gather-requires
-gather-requires c κs = (places-wider (c .before .before .before .before .before .before .pre .0 .n-small) (c .before .before .find-rivals .ensures .placed), refl)
+array-read-i : tie.Need-array-read-i
+array-read-i c = search needs
 
-gather-requires-2 : tie.Need-gather-requires-2
-gather-requires-2 c κs = (places-wider (c .before .before .before .before .before .before .before .before .before .pre .0 .n-small) (c .before .before .before .before .before .find-rivals .ensures .placed), refl)
+mul-taken : tie.Need-mul-taken
+mul-taken c = omega (arith, placed (c .before) .below 0 (omega (arith, c .if2 .taken)))
 
-gather-requires-3 : tie.Need-gather-requires-3
-gather-requires-3 c κs = (places-wider (c .before .before .before .before .before .before .before .before .before .before .before .before .pre .0 .n-small) (c .before .before .before .before .before .before .before .before .find-rivals .ensures .placed), refl)
-
-gather-requires-4 : tie.Need-gather-requires-4
-gather-requires-4 c κs = (places-wider (c .before .before .before .before .before .before .before .before .before .before .before .before .before .before .before .pre .0 .n-small) (c .before .before .before .before .before .before .before .before .before .before .before .find-rivals .ensures .placed), refl)
-
-gather-requires-5 : tie.Need-gather-requires-5
-gather-requires-5 c κs = (places-wider (c .before .before .before .before .before .before .before .before .before .before .before .before .before .before .before .before .before .before .pre .0 .n-small) (c .before .before .before .before .before .before .before .before .before .before .before .before .before .before .find-rivals .ensures .placed), refl)
-
-take-best-requires-2 : tie.Need-take-best-requires-2
-take-best-requires-2 c κs =
-    let table = c .before .before .before .before .before .before .before .before .before .before .before .before .before .before .before .before .before .before .before .before .before .before .before .before .pre .0 in
-    let rivals = c .before .before .before .before .before .before .before .before .before .before .before .before .before .before .before .before .before .before .before .before .find-rivals .ensures in
-    let o = c .before .before .before .before .before .before .before .before .before .before .before .before .before .before .before .before .before .gather .ensures in
-    let d = c .before .before .before .before .before .before .before .before .before .before .before .before .before .before .gather2 .ensures in
-    let x = c .before .before .before .before .before .gather5 .ensures in (
-      rivals-table table rivals o d x (c .before .before .before .before .before .before .before .before .before .before .before .gather3 .ensures) (c .before .before .before .before .before .before .before .before .gather4 .ensures),
-      alone-room (rivals-alone table rivals o d x (c .before .before .before .before .before .before .before .before .before .before .before .before .before .before .before .before .before .before .before .before .before .before .before .bar-of .ensures .some (omega (arith, c .before .before .before .before .before .before .before .before .before .before .before .before .before .before .before .before .before .before .before .before .before .before .if1 .left)))),
-    )
-
-spread-requires : tie.Need-spread-requires
-spread-requires c κs = places-wider (c .before .before .before .before .before .before .before .before .before .before .before .before .before .before .before .before .before .before .before .before .before .before .before .before .before .before .before .pre .0 .n-small) (c .before .before .before .before .before .before .before .before .before .before .before .before .before .before .before .before .before .before .before .before .before .before .before .find-rivals .ensures .placed)
+element-write-taken : tie.Need-element-write-taken
+element-write-taken c = placed (c .before) .below 0 (omega (arith, c .if2 .taken))
 
 returns-2 : tie.Need-returns-2
 returns-2 c =
-    let table = c .before .before .before .before .before .before .before .before .before .before .before .before .before .before .before .before .before .before .before .before .before .before .before .before .before .before .before .before .pre .0 in
-    let rivals = c .before .before .before .before .before .before .before .before .before .before .before .before .before .before .before .before .before .before .before .before .before .before .before .before .find-rivals .ensures in
-    let o = c .before .before .before .before .before .before .before .before .before .before .before .before .before .before .before .before .before .before .before .before .before .gather .ensures in
-    let d = c .before .before .before .before .before .before .before .before .before .before .before .before .before .before .before .before .before .before .gather2 .ensures in
-    let x = c .before .before .before .before .before .before .before .before .before .gather5 .ensures in
-    rivals-suffice table rivals o d x (rivals-alone table rivals o d x (c .before .before .before .before .before .before .before .before .before .before .before .before .before .before .before .before .before .before .before .before .before .before .before .before .before .before .before .bar-of .ensures .some (omega (arith, c .before .before .before .before .before .before .before .before .before .before .before .before .before .before .before .before .before .before .before .before .before .before .before .before .before .before .if1 .left)))) (c .before .before .before .take-best2 .ensures) (c .spread .ensures)
+    rw (c .before .before .before .before .before .pre .1 .1) (alone-taken (c .before .before .before .before .before .pre .0) (rw (c .if2 .taken) at (c .before .find-rivals .ensures)) (omega (arith, c .before .before .before .if1 .left)) (roomy (c .before .before .before)))
+
+gather-requires : tie.Need-gather-requires
+gather-requires c κs = (placed (c .before .before .before), refl)
+
+gather-requires-2 : tie.Need-gather-requires-2
+gather-requires-2 c κs = (placed (c .before .before .before .before .before .before), refl)
+
+gather-requires-3 : tie.Need-gather-requires-3
+gather-requires-3 c κs = (placed (c .before .before .before .before .before .before .before .before .before), refl)
+
+take-scaled-requires-2 : tie.Need-take-scaled-requires-2
+take-scaled-requires-2 c κs =
+    let sources = c .before .before .before .before .before .before .before .before .before .before .before .before .before .before .before .before .before .before .pre .0 in
+    let rivals = c .before .before .before .before .before .before .before .before .before .before .before .before .before .before .find-rivals .ensures in
+    let o = c .before .before .before .before .before .before .before .before .before .before .gather .ensures in
+    let d = c .before .before .before .before .before .before .before .gather2 .ensures in
+    let x = c .before .before .before .before .gather3 .ensures in
+    (rivals-sources sources rivals o d x, (alone-room (rivals-alone sources rivals o d x (roomy (c .before .before .before .before .before .before .before .before .before .before .before .before .before .before .before .before))), refl))
+
+spread-requires : tie.Need-spread-requires
+spread-requires c κs = (placed (c .before .before .before .before .before .before .before .before .before .before .before .before .before .before .before .before .before .before), c .before .before .before .before .before .before .before .before .before .before .before .before .before .before .before .before .before .before .before .before .before .before .pre .1 .1)
+
+returns-3 : tie.Need-returns-3
+returns-3 c =
+    let sources = c .before .before .before .before .before .before .before .before .before .before .before .before .before .before .before .before .before .before .before .before .before .before .before .pre .0 in
+    let rivals = c .before .before .before .before .before .before .before .before .before .before .before .before .before .before .before .before .before .before .before .find-rivals .ensures in
+    let o = c .before .before .before .before .before .before .before .before .before .before .before .before .before .before .before .gather .ensures in
+    let d = c .before .before .before .before .before .before .before .before .before .before .before .before .gather2 .ensures in
+    let x = c .before .before .before .before .before .before .before .before .before .gather3 .ensures in
+    rivals-suffice sources rivals o d x (rivals-alone sources rivals o d x (roomy (c .before .before .before .before .before .before .before .before .before .before .before .before .before .before .before .before .before .before .before .before .before))) (c .before .before .before .before .take-scaled2 .ensures) (c .spread .ensures)
 
 pub price-spec : {M : Type 1} → statement M
 price-spec =
     tie.close
     (tie.spec
     bar-of-requires
-    take-best-requires
+    take-scaled-requires
     returns
     find-rivals-requires
+    array-read-i
+    mul-taken
+    element-write-taken
+    returns-2
     gather-requires
     gather-requires-2
     gather-requires-3
-    gather-requires-4
-    gather-requires-5
-    take-best-requires-2
+    take-scaled-requires-2
     spread-requires
-    returns-2)
+    returns-3)

@@ -17,7 +17,7 @@ mul-t7 : tie.Need-mul-t7
 mul-t7 c = search needs
 
 returns : tie.Need-returns
-returns c = (refl, refl, record { falls = c .before .before .before .pre; shape = inl (c .before .before .if1 .taken, c .before .least .ensures, omega (arith, c .less .ensures)) })
+returns c = record { falls = c .before .before .before .pre; shape = inl (c .before .before .if1 .taken, c .before .least .ensures, omega (arith, c .less .ensures)) }
 
 mul-t8 : tie.Need-mul-t8
 mul-t8 c = omega (arith, mul-le-mul (c .before .pre .step-small) (c .before .pre .cap-small))
@@ -29,7 +29,7 @@ add-t10 : tie.Need-add-t10
 add-t10 c = omega (arith, div-le-self 1099511627776 (c .before .args .step))
 
 returns-2 : tie.Need-returns-2
-returns-2 c = (refl, refl, record { falls = c .before .pre; shape = inr (omega arith, refl, refl) })
+returns-2 c = record { falls = c .before .pre; shape = inr (omega arith, refl, refl) }
 
 pub shaped-spec : {M : Type 1} → statement M
 shaped-spec =

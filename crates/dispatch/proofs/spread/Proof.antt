@@ -13,7 +13,7 @@ abbrev μ-loop : tie.MeasureT-loop
 μ-loop few places m all₀ k₀ all k = m - k
 
 loop-holds : tie.Need-loop-holds Inv-loop μ-loop
-loop-holds c = (omega arith, spread-none _ _)
+loop-holds c = (omega arith, rw (c .pre .1) (spread-none _ _))
 
 mul-i : tie.Need-mul-i Inv-loop μ-loop
 mul-i c = omega arith
@@ -28,10 +28,10 @@ element-copy-out-x : tie.Need-element-copy-out-x Inv-loop μ-loop
 element-copy-out-x c = omega arith
 
 mul-all : tie.Need-mul-all Inv-loop μ-loop
-mul-all c = omega (arith, c .before .before .before .before .pre .below (c .before .before .before .loop .k) (omega arith))
+mul-all c = omega (arith, c .before .before .before .before .pre .0 .below (c .before .before .before .loop .k) (omega arith))
 
-array-write-all : tie.Need-array-write-all Inv-loop μ-loop
-array-write-all c = omega (arith, c .before .before .before .before .pre .below (c .before .before .before .loop .k) (omega arith))
+element-write-all : tie.Need-element-write-all Inv-loop μ-loop
+element-write-all c = omega (arith, c .before .before .before .before .pre .0 .below (c .before .before .before .loop .k) (omega arith))
 
 add-k : tie.Need-add-k Inv-loop μ-loop
 add-k c = omega arith
@@ -40,7 +40,7 @@ loop-less : tie.Need-loop-less Inv-loop μ-loop
 loop-less c = omega arith
 
 loop-again : tie.Need-loop-again Inv-loop μ-loop
-loop-again c = (omega arith, spread-more _ _ _ _ _ (c .before .before .before .before .pre) (omega arith) (c .before .before .before .loop .inv .1))
+loop-again c = (omega arith, spread-more _ _ _ _ _ (c .before .before .before .before .pre .0) (omega arith) (c .before .before .before .loop .inv .1))
 
 returns : tie.Need-returns Inv-loop μ-loop
 returns c = spread-all _ _ _ _ _ (c .before .loop .inv .0) (c .loop-test .left) (c .before .loop .inv .1)
@@ -57,7 +57,7 @@ spread-spec =
     mul-x
     element-copy-out-x
     mul-all
-    array-write-all
+    element-write-all
     add-k
     loop-less
     loop-again

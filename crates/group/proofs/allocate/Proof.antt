@@ -1,16 +1,28 @@
 -- `group::allocate` meets its contract: the MWh and the cost only grow, and all fits.
-use mathlib.Core.Path.{_∙_}
+use mathlib.Core.Logic.{⊎-elim}
+use mathlib.Core.Path.{_≡_, sym, ap, _∙_}
 use Prim.Native.Nat.{_+_}
 use native.Mathlib.Nat.{mul-le-mul}
 use native.Mathlib.Omega.{arith}
 use borrow.Author.Needs.{needs}
 use Rattle.group.specs.Directs.{Allocates, allocates, directed-is}
+use Rattle.merit.specs.ChangedFromB.{changed-zero}
 use Rattle.merit.specs.NumbersStaySmall.{paid-small}
+use Rattle.rules.specs.Group.{changed, withBasic}
 use Rattle.group.proofs.allocate.Statement.{statement}
 use Rattle.group.proofs.allocate.Tie as tie
 
 facts : (c : tie.Start) → Allocates (c .args .s) (c .args .line .basis) (c .args .s .percent + c .args .line .percent)
 facts c = allocates (c .args .s) (c .args .line) (c .pre .0 .0) (c .pre .0 .1) (c .pre .1)
+
+-- nothing costs nothing
+charged : (c : tie.Joined1) → c .if1 .before ≡ changed (withBasic (c .before .before .before .before .before .before .args .s) (c .before .before .before .before .before .before .args .line .basis)) (c .before .before .before .before .before .before .args .s .d)
+charged c =
+    let t = withBasic (c .before .before .before .before .before .before .args .s) (c .before .before .before .before .before .before .args .line .basis) in
+    ⊎-elim
+    (λ w. w .1 ∙ sym (ap (changed t) (w .0 .taken) ∙ changed-zero t (c .before .before .before .before .before .before .pre .0 .0 .starts)))
+    (λ w. w .2 ∙ (rw (c .before .before .before .before .before .with-basic .ensures) at (w .1 .ensures .0)))
+    (c .if1 .came)
 
 with-basic-requires : tie.Need-with-basic-requires
 with-basic-requires c κs = search needs
@@ -25,21 +37,21 @@ changed-cost-requires : tie.Need-changed-cost-requires
 changed-cost-requires c κs = let a = facts (c .before .before .before) in rw (c .before .before .with-basic .ensures) (a .small, omega (arith, a .part, a .small .b))
 
 changed-cost-requires-2 : tie.Need-changed-cost-requires-2
-changed-cost-requires-2 c κs = let a = facts (c .before .before .before .before) in rw (c .before .before .before .with-basic .ensures) (a .small, omega (arith, a .more, a .part, a .small .b))
+changed-cost-requires-2 c κs = let a = facts (c .before .before .before .before .before .before) in rw (c .before .before .before .before .before .with-basic .ensures) (a .small, omega (arith, a .more, a .part, a .small .b))
 
 sub-with-direct : tie.Need-sub-with-direct
-sub-with-direct c =
-    let e = c .before .before .before .before .with-basic .ensures in
-    omega (arith, rw e at (c .before .changed-cost .ensures .0), rw e at (c .changed-cost2 .ensures .0), facts (c .before .before .before .before .before) .charged)
+sub-with-direct c = omega (arith, rw (c .before .before .before .before .before .before .with-basic .ensures) at (c .before .before .before .changed-cost .ensures .0), charged (c .before), facts (c .before .before .before .before .before .before .before) .charged)
 
 add-with-direct : tie.Need-add-with-direct
-add-with-direct c = omega (arith, paid-small (c .before .before .before .before .before .before .args .s) (c .before .before .before .before .before .before .pre .0 .0) (c .before .before .before .before .before .before .pre .0 .1), c .before .before .changed-cost .ensures .1)
+add-with-direct c = omega (arith, paid-small (c .before .before .before .before .before .before .before .before .args .s) (c .before .before .before .before .before .before .before .before .pre .0 .0) (c .before .before .before .before .before .before .before .before .pre .0 .1), c .before .before .before .before .changed-cost .ensures .1)
 
 with-direct-requires : tie.Need-with-direct-requires
-with-direct-requires c κs = let a = facts (c .before .before .before .before .before .before) in rw (c .before .before .before .before .before .with-basic .ensures) (a .more, a .within)
+with-direct-requires c κs = let a = facts (c .before .before .before .before .before .before .before .before) in rw (c .before .before .before .before .before .before .before .with-basic .ensures) (a .more, a .within)
 
 returns : tie.Need-returns
-returns c = c .with-direct .ensures ∙ directed-is (c .before .before .before .before .before .before .before .args .s) (c .before .before .before .before .before .before .before .args .line) _ _ _ (c .before .before .before .before .before .before .with-basic .ensures) (c .before .before .before .changed-cost .ensures .0) (c .before .before .changed-cost2 .ensures .0)
+returns c =
+    let e = c .before .before .before .before .before .before .before .before .with-basic .ensures in
+    c .with-direct .ensures ∙ directed-is (c .before .before .before .before .before .before .before .before .before .args .s) (c .before .before .before .before .before .before .before .before .before .args .line) _ _ _ e (c .before .before .before .before .before .changed-cost .ensures .0) (rw e (charged (c .before .before .before)))
 
 pub allocate-spec : {M : Type 1} → statement M
 allocate-spec =

@@ -4,11 +4,12 @@ use mathlib.Core.Path.{_≡_, refl, sym, ap, _∙_}
 use Prim.Native.Nat.{_*_, _-_, _≤_, _<_}
 use native.Mathlib.Omega.{arith}
 use lib.Dec.{ltb}
+use lib.ListN.{set}
 use Rattle.dispatch.specs.Taken.{Taken}
-use Rattle.dispatch.specs.TakenIsPlain.{LinesOf, lines-more, lines-table}
+use Rattle.dispatch.specs.TakenIsPlain.{LinesOf, lines-sources}
 use Rattle.group.specs.declared.Verdict.the-variants.{Done}
 use Rattle.group.specs.Settling.{settled, wayAt, Trying, way-side, way-priced, short-none, short-more, short-all, settled-end, remainder-by, remainder-outcome}
-use Rattle.ladder.specs.Ways.{wayOf, upOf, way-within, long-lines, lines-long, lines-done, lines-room, taken-within, engine-plain}
+use Rattle.ladder.specs.Ways.{wayOf, upOf, lines-next, long-lines, lines-long, lines-done, lines-room, taken-within, engine-plain}
 use Rattle.laws.specs.Sums.{sumTo-none, sumTo-more, sumTo-end}
 use Rattle.marks.specs.Lines.{at}
 use Rattle.merit.specs.LevelNeverBelowB.{stateAt}
@@ -19,11 +20,11 @@ use Rattle.group.proofs.settle.Statement.{statement}
 use Rattle.group.proofs.settle.Tie as tie
 
 abbrev Inv-loop2 : tie.InvT-loop2
-Inv-loop2 number n total took by-price up rest ways one₀ step₀ span₀ inv₀ cap₀ end tried way sum₀ i₀ one step span inv cap sum i =
-    (i ≤ n) × (sum ≤ i * 2000) × (sum ≡ all (wayOf way .room) (end .states) i) × LinesOf up (wayOf way .room) (end .states) one step span inv cap i
+Inv-loop2 number n total took by-price up rest ways one₀ step₀ cap₀ end tried way sum₀ i₀ one step cap sum i =
+    (i ≤ n) × (sum ≤ i * 2000) × (sum ≡ all (wayOf way .room) (end .states) i) × LinesOf (upOf way) (wayOf way .room) (end .states) one step cap i
 
 abbrev μ-loop2 : tie.MeasureT-loop2
-μ-loop2 number n total took by-price up rest ways one₀ step₀ span₀ inv₀ cap₀ end tried way sum₀ i₀ one step span inv cap sum i = n - i
+μ-loop2 number n total took by-price up rest ways one₀ step₀ cap₀ end tried way sum₀ i₀ one step cap sum i = n - i
 
 abbrev Inv-loop3 : tie.InvT-loop3
 Inv-loop3 n total took by-price up rest ways end₀ tried sum i taken k₀ end k = (k ≤ n) × Shifted up (end₀ .states) k (at taken) (end .states) × (end .verdict ≡ Done)
@@ -32,11 +33,11 @@ abbrev μ-loop3 : tie.MeasureT-loop3
 μ-loop3 n total took by-price up rest ways end₀ tried sum i taken k₀ end k = n - k
 
 abbrev Inv-loop : tie.InvT-loop
-Inv-loop number n total took by-price up rest ways one₀ step₀ span₀ inv₀ cap₀ end₀ tried₀ one step span inv cap end tried =
-    (tried ≤ ways) × (end .verdict ≡ Done) × Trying up n (end₀ .states) rest one step span inv cap (end .states) tried
+Inv-loop number n total took by-price up rest ways one₀ step₀ cap₀ end₀ tried₀ one step cap end tried =
+    (tried ≤ ways) × (end .verdict ≡ Done) × Trying up n (end₀ .states) rest one step cap (end .states) tried
 
 abbrev μ-loop : tie.MeasureT-loop
-μ-loop number n total took by-price up rest ways one₀ step₀ span₀ inv₀ cap₀ end₀ tried₀ one step span inv cap end tried = ways - tried
+μ-loop number n total took by-price up rest ways one₀ step₀ cap₀ end₀ tried₀ one step cap end tried = ways - tried
 
 distance-requires : tie.Need-distance-requires Inv-loop2 μ-loop2 Inv-loop3 μ-loop3 Inv-loop μ-loop
 distance-requires c κs = search needs
@@ -45,7 +46,7 @@ tries-of-requires : tie.Need-tries-of-requires Inv-loop2 μ-loop2 Inv-loop3 μ-l
 tries-of-requires c κs = search needs
 
 loop-holds : tie.Need-loop-holds Inv-loop2 μ-loop2 Inv-loop3 μ-loop3 Inv-loop μ-loop
-loop-holds c = (omega arith, refl, record { lists = record { long-one = refl; long-step = refl; long-span = refl; long-inv = refl; long-cap = refl }; same = refl; long = search needs; ready = c .before .before .pre; short = short-none })
+loop-holds c = (omega arith, refl, record { lists = record { long-one = refl; long-step = refl; long-cap = refl }; same = refl; long = search needs; ready = c .before .before .pre; short = short-none })
 
 way-at-requires : tie.Need-way-at-requires Inv-loop2 μ-loop2 Inv-loop3 μ-loop3 Inv-loop μ-loop
 way-at-requires c κs = search needs
@@ -59,22 +60,11 @@ mul-s c = search needs
 element-copy-out-s : tie.Need-element-copy-out-s Inv-loop2 μ-loop2 Inv-loop3 μ-loop3 Inv-loop μ-loop
 element-copy-out-s c = search needs
 
-room-by-requires : tie.Need-room-by-requires Inv-loop2 μ-loop2 Inv-loop3 μ-loop3 Inv-loop μ-loop
-room-by-requires c κs = c .before .before .before .before .before .loop .inv .2 .ready .ready _
-
 way-up : (c : tie.After-way-at Inv-loop2 μ-loop2 Inv-loop3 μ-loop3 Inv-loop μ-loop) → ltb (c .before .before .before .before .before .args .total) (c .before .before .before .before .before .args .took) ≡ upOf (c .way-at .result)
 way-up c = way-side _ _ _ (c .way-at .ensures)
 
-line-of-requires : tie.Need-line-of-requires Inv-loop2 μ-loop2 Inv-loop3 μ-loop3 Inv-loop μ-loop
-line-of-requires c κs =
-    let r = c .before .before .before .before .before .before .loop .inv .2 .ready .ready (c .before .before .before .loop2 .i) in
-    (r, rw (way-up (c .before .before .before .before)) (way-within (c .before .before .before .before .way-at .result) _ (c .room-by .result) r (omega (arith, c .room-by .ensures .0))))
-
-mul-one : tie.Need-mul-one Inv-loop2 μ-loop2 Inv-loop3 μ-loop3 Inv-loop μ-loop
-mul-one c = search needs
-
-array-write-one : tie.Need-array-write-one Inv-loop2 μ-loop2 Inv-loop3 μ-loop3 Inv-loop μ-loop
-array-write-one c = search needs
+step-of-requires : tie.Need-step-of-requires Inv-loop2 μ-loop2 Inv-loop3 μ-loop3 Inv-loop μ-loop
+step-of-requires c κs = c .before .before .before .before .before .loop .inv .2 .ready .ready (c .before .before .loop2 .i) .small .plant
 
 mul-step : tie.Need-mul-step Inv-loop2 μ-loop2 Inv-loop3 μ-loop3 Inv-loop μ-loop
 mul-step c = search needs
@@ -82,26 +72,11 @@ mul-step c = search needs
 array-write-step : tie.Need-array-write-step Inv-loop2 μ-loop2 Inv-loop3 μ-loop3 Inv-loop μ-loop
 array-write-step c = search needs
 
-mul-span : tie.Need-mul-span Inv-loop2 μ-loop2 Inv-loop3 μ-loop3 Inv-loop μ-loop
-mul-span c = search needs
-
-array-write-span : tie.Need-array-write-span Inv-loop2 μ-loop2 Inv-loop3 μ-loop3 Inv-loop μ-loop
-array-write-span c = search needs
-
-mul-inv : tie.Need-mul-inv Inv-loop2 μ-loop2 Inv-loop3 μ-loop3 Inv-loop μ-loop
-mul-inv c = search needs
-
-array-write-inv : tie.Need-array-write-inv Inv-loop2 μ-loop2 Inv-loop3 μ-loop3 Inv-loop μ-loop
-array-write-inv c = search needs
-
-mul-cap : tie.Need-mul-cap Inv-loop2 μ-loop2 Inv-loop3 μ-loop3 Inv-loop μ-loop
-mul-cap c = search needs
-
-array-write-cap : tie.Need-array-write-cap Inv-loop2 μ-loop2 Inv-loop3 μ-loop3 Inv-loop μ-loop
-array-write-cap c = search needs
+set-line-requires : tie.Need-set-line-requires Inv-loop2 μ-loop2 Inv-loop3 μ-loop3 Inv-loop μ-loop
+set-line-requires c κs = (omega (arith, c .before .before .before .before .loop2-test .taken, c .before .before .before .before .before .before .before .before .before .before .before .pre .n-small), c .before .before .before .before .before .before .before .before .loop .inv .2 .ready .ready (c .before .before .before .before .before .loop2 .i))
 
 add-sum : tie.Need-add-sum Inv-loop2 μ-loop2 Inv-loop3 μ-loop3 Inv-loop μ-loop
-add-sum c = omega (arith, c .before .room-by .ensures .1, c .before .before .before .before .loop2 .inv .1, c .before .before .before .before .before .before .before .before .before .before .pre .n-small)
+add-sum c = omega (arith, c .set-line .ensures .small, c .before .before .before .before .before .before .loop2 .inv .1, c .before .before .before .before .before .before .before .before .before .before .before .before .pre .n-small)
 
 add-i : tie.Need-add-i Inv-loop2 μ-loop2 Inv-loop3 μ-loop3 Inv-loop μ-loop
 add-i c = search needs
@@ -112,22 +87,22 @@ loop2-less c = search needs
 loop2-again : tie.Need-loop2-again Inv-loop2 μ-loop2 Inv-loop3 μ-loop3 Inv-loop μ-loop
 loop2-again c = (
   omega arith,
-  omega (arith, c .before .room-by .ensures .1, c .before .before .before .before .loop2 .inv .1),
-  sumTo-more _ _ _ _ (c .before .before .before .before .loop2 .inv .2) (c .before .room-by .ensures .0),
-  lines-more (c .before .before .before .before .loop2 .inv .3) (omega (arith, c .before .before .before .before .before .before .before .before .before .before .pre .n-small)) (c .line-of .ensures) (c .before .room-by .ensures .0),
+  omega (arith, c .set-line .ensures .small, c .before .before .before .before .before .before .loop2 .inv .1),
+  sumTo-more _ _ _ _ (c .before .before .before .before .before .before .loop2 .inv .2) (c .set-line .ensures .room),
+  lines-next (c .before .before .before .before .before .before .before .way-at .result) (c .before .before .before .before .before .before .loop2 .inv .3) (omega (arith, c .before .before .before .before .before .before .before .before .before .before .before .before .pre .n-small)) (c .set-line .ensures) (ap (set (c .before .before .before .before .before .before .loop2 .step) (c .before .before .before .before .before .before .loop2 .i)) (c .before .before .before .step-of .ensures)),
 )
 
-lined : (c : tie.After-loop2 Inv-loop2 μ-loop2 Inv-loop3 μ-loop3 Inv-loop μ-loop) → let l = c .before .loop2 in let way = c .before .before .way-at .result in LinesOf (upOf way) (wayOf way .room) (c .before .before .before .before .loop .end .states) (l .one) (l .step) (l .span) (l .inv′) (l .cap) (c .before .before .before .before .before .before .before .args .n)
-lined c = lines-done (c .before .before .way-at .result) (way-up (c .before .before)) (c .before .loop2 .inv .0) (c .loop2-test .left) (c .before .loop2 .inv .3)
+lined : (c : tie.After-loop2 Inv-loop2 μ-loop2 Inv-loop3 μ-loop3 Inv-loop μ-loop) → let l = c .before .loop2 in let way = c .before .before .way-at .result in LinesOf (upOf way) (wayOf way .room) (c .before .before .before .before .loop .end .states) (l .one) (l .step) (l .cap) (c .before .before .before .before .before .before .before .args .n)
+lined c = lines-done (c .before .before .way-at .result) refl (c .before .loop2 .inv .0) (c .loop2-test .left) (c .before .loop2 .inv .3)
 
 roomy : (c : tie.After-loop2 Inv-loop2 μ-loop2 Inv-loop3 μ-loop3 Inv-loop μ-loop) → c .before .loop2 .sum ≡ all (wayOf (c .before .before .way-at .result) .room) (c .before .before .before .before .loop .end .states) (c .before .before .before .before .before .before .before .args .n)
 roomy c = sumTo-end _ _ _ _ (c .before .loop2 .inv .0) (c .loop2-test .left) (c .before .loop2 .inv .2)
 
 take-requires : tie.Need-take-requires Inv-loop2 μ-loop2 Inv-loop3 μ-loop3 Inv-loop μ-loop
-take-requires c κs = (lines-table (lined (c .before .before .before .before .before .before)) (c .before .before .before .before .before .before .before .before .before .before .before .before .before .pre .n-small), lines-room (c .before .before .before .before .before .before .before .before .way-at .result) (lined (c .before .before .before .before .before .before)) (omega (arith, c .before .before .before .before .before .if1 .taken, roomy (c .before .before .before .before .before .before))))
+take-requires c κs = (lines-sources (lined (c .before .before .before .before .before)) (c .before .before .before .before .before .before .before .before .before .before .before .before .pre .n-small), (lines-room (c .before .before .before .before .before .before .before .way-at .result) (lined (c .before .before .before .before .before)) (omega (arith, c .before .before .before .before .if1 .taken, roomy (c .before .before .before .before .before))), refl))
 
 loop3-holds : tie.Need-loop3-holds Inv-loop2 μ-loop2 Inv-loop3 μ-loop3 Inv-loop μ-loop
-loop3-holds c = (omega arith, shifted-none _ _ _, c .before .before .before .before .before .before .before .before .before .before .before .loop .inv .1)
+loop3-holds c = (omega arith, shifted-none _ _ _, c .before .before .before .before .before .before .before .before .before .before .loop .inv .1)
 
 mul-t : tie.Need-mul-t Inv-loop2 μ-loop2 Inv-loop3 μ-loop3 Inv-loop μ-loop
 mul-t c = search needs
@@ -142,22 +117,22 @@ element-copy-out-s-2 :
     tie.Need-element-copy-out-s-2 Inv-loop2 μ-loop2 Inv-loop3 μ-loop3 Inv-loop μ-loop
 element-copy-out-s-2 c = search needs
 
-taken : (c : tie.After-take Inv-loop2 μ-loop2 Inv-loop3 μ-loop3 Inv-loop μ-loop) → let l = c .before .before .before .before .before .before .before .before .loop2 in Taken (upOf (c .before .before .before .before .before .before .before .before .before .way-at .result)) (l .one) (l .step) (l .cap) (c .before .before .before .before .before .before .before .before .before .before .before .before .before .before .args .n) (c .before .before .before .before .before .before .before .before .before .before .before .before .before .distance .result) (c .take .result)
-taken c = rw (way-up (c .before .before .before .before .before .before .before .before .before)) at (c .take .ensures)
+taken : (c : tie.After-take Inv-loop2 μ-loop2 Inv-loop3 μ-loop3 Inv-loop μ-loop) → let l = c .before .before .before .before .before .before .before .loop2 in Taken (upOf (c .before .before .before .before .before .before .before .before .way-at .result)) (l .one) (l .step) (l .cap) (c .before .before .before .before .before .before .before .before .before .before .before .before .before .args .n) (c .before .before .before .before .before .before .before .before .before .before .before .before .distance .result) (c .take .last .1 .1 .1 .1 .1 .1 .1 .0)
+taken c = rw (way-up (c .before .before .before .before .before .before .before .before)) at (c .take .ensures)
 
-within : (c : tie.After-take Inv-loop2 μ-loop2 Inv-loop3 μ-loop3 Inv-loop μ-loop) → AllWithin (ltb (c .before .before .before .before .before .before .before .before .before .before .before .before .before .before .args .total) (c .before .before .before .before .before .before .before .before .before .before .before .before .before .before .args .took)) (c .before .before .before .before .before .before .before .before .before .before .before .loop .end .states) (c .before .before .before .before .before .before .before .before .before .before .before .before .before .before .args .n) (at (c .take .result))
-within c = rw (way-up (c .before .before .before .before .before .before .before .before .before)) (taken-within (c .before .before .before .before .before .before .before .before .before .way-at .result) (lined (c .before .before .before .before .before .before .before)) (c .before .before .before .before .before .before .before .before .before .before .before .loop .inv .2 .ready) (taken c))
+within : (c : tie.After-take Inv-loop2 μ-loop2 Inv-loop3 μ-loop3 Inv-loop μ-loop) → AllWithin (ltb (c .before .before .before .before .before .before .before .before .before .before .before .before .before .args .total) (c .before .before .before .before .before .before .before .before .before .before .before .before .before .args .took)) (c .before .before .before .before .before .before .before .before .before .before .loop .end .states) (c .before .before .before .before .before .before .before .before .before .before .before .before .before .args .n) (at (c .take .last .1 .1 .1 .1 .1 .1 .1 .0))
+within c = rw (way-up (c .before .before .before .before .before .before .before .before)) (taken-within (c .before .before .before .before .before .before .before .before .way-at .result) (lined (c .before .before .before .before .before .before)) (c .before .before .before .before .before .before .before .before .before .before .loop .inv .2 .ready) (taken c))
 
 shift-one-requires :
     tie.Need-shift-one-requires Inv-loop2 μ-loop2 Inv-loop3 μ-loop3 Inv-loop μ-loop
 shift-one-requires c κs =
     let l = c .before .before .before .loop3 in
     let w = within (c .before .before .before .before) in
-    let e : stateAt (l .end .states) (l .k) ≡ stateAt (c .before .before .before .before .before .before .before .before .before .before .before .before .before .before .before .loop .end .states) (l .k) = l .inv .1 .beyond _ (omega arith) in
+    let e : stateAt (l .end .states) (l .k) ≡ stateAt (c .before .before .before .before .before .before .before .before .before .before .before .before .before .before .loop .end .states) (l .k) = l .inv .1 .beyond _ (omega arith) in
     rw e (w .all .ready _, w .within _ (omega arith))
 
-mul-t55 : tie.Need-mul-t55 Inv-loop2 μ-loop2 Inv-loop3 μ-loop3 Inv-loop μ-loop
-mul-t55 c = search needs
+mul-t46 : tie.Need-mul-t46 Inv-loop2 μ-loop2 Inv-loop3 μ-loop3 Inv-loop μ-loop
+mul-t46 c = search needs
 
 element-set-from-end :
     tie.Need-element-set-from-end Inv-loop2 μ-loop2 Inv-loop3 μ-loop3 Inv-loop μ-loop
@@ -173,20 +148,20 @@ loop3-again : tie.Need-loop3-again Inv-loop2 μ-loop2 Inv-loop3 μ-loop3 Inv-loo
 loop3-again c =
     let l = c .before .before .loop3 in
     ⊎-elim
-    (λ w. (omega arith, rw (w .3) (shifted-more _ _ _ _ _ _ (omega arith) (c .before .before .before .before .before .before .before .before .before .before .before .before .before .before .loop .inv .2 .long) (l .inv .1) (w .2 .ensures)), rw (w .3) (l .inv .2)))
+    (λ w. (omega arith, rw (w .3) (shifted-more _ _ _ _ _ _ (omega arith) (c .before .before .before .before .before .before .before .before .before .before .before .before .before .loop .inv .2 .long) (l .inv .1) (w .2 .ensures)), rw (w .3) (l .inv .2)))
     (λ w. (omega arith, rw (w .1) (shifted-skip _ _ _ _ _ (omega (arith, w .0 .left)) (l .inv .1)), rw (w .1) (l .inv .2)))
     (c .if2 .came)
 
 returns : tie.Need-returns Inv-loop2 μ-loop2 Inv-loop3 μ-loop3 Inv-loop μ-loop
 returns c =
-    let a = c .before .before .before .before .before .before .before .before .before .before .before .before .before .before .before .before .args in
-    let l = c .before .before .before .before .before .before .before .before .before .before .before .before .before .loop in
-    let way = c .before .before .before .before .before .before .before .before .before .before .before .way-at .result in
-    let d = c .before .before .before .before .before .before .before .before .before .before .before .before .before .before .before .distance .ensures in
+    let a = c .before .before .before .before .before .before .before .before .before .before .before .before .before .before .before .args in
+    let l = c .before .before .before .before .before .before .before .before .before .before .before .before .loop in
+    let way = c .before .before .before .before .before .before .before .before .before .before .way-at .result in
+    let d = c .before .before .before .before .before .before .before .before .before .before .before .before .before .before .distance .ensures in
     let moved = shifted-all _ _ _ _ _ _ (c .before .loop3 .inv .0) (c .loop3-test .left) (c .before .loop3 .inv .1) in
-    let e = engine-plain (l .inv .2 .ready) way (way-priced (ltb (a .total) (a .took)) (l .tried) way (c .before .before .before .before .before .before .before .before .before .before .before .way-at .ensures)) (lined (c .before .before .before .before .before .before .before .before .before)) (taken (c .before .before)) (rw (way-up (c .before .before .before .before .before .before .before .before .before .before .before)) at moved) in
+    let e = engine-plain (l .inv .2 .ready) way (way-priced (ltb (a .total) (a .took)) (l .tried) way (c .before .before .before .before .before .before .before .before .before .before .way-at .ensures)) (lined (c .before .before .before .before .before .before .before .before)) (taken (c .before .before)) (rw (way-up (c .before .before .before .before .before .before .before .before .before .before)) at moved) in
     rw (← l .inv .2 .same) (settled-end (l .end .states) (c .before .loop3 .end) (c .before .loop3 .inv .2) e
-    (remainder-by (a .number) (a .n) (a .total) (a .took) (l .end .states) _ _ way d (c .before .before .before .before .before .before .before .before .before .before .before .way-at .ensures) (omega (arith, c .before .before .before .before .before .before .before .before .before .before .before .before .loop-test .taken, c .before .before .before .before .before .before .before .before .before .before .before .before .before .before .tries-of .ensures)) (l .inv .2 .short) (omega (arith, c .before .before .before .before .before .before .before .before .if1 .taken, roomy (c .before .before .before .before .before .before .before .before .before)))))
+    (remainder-by (a .number) (a .n) (a .total) (a .took) (l .end .states) _ _ way d (c .before .before .before .before .before .before .before .before .before .before .way-at .ensures) (omega (arith, c .before .before .before .before .before .before .before .before .before .before .before .loop-test .taken, c .before .before .before .before .before .before .before .before .before .before .before .before .before .tries-of .ensures)) (l .inv .2 .short) (omega (arith, c .before .before .before .before .before .before .before .if1 .taken, roomy (c .before .before .before .before .before .before .before .before)))))
 
 add-tried : tie.Need-add-tried Inv-loop2 μ-loop2 Inv-loop3 μ-loop3 Inv-loop μ-loop
 add-tried c = search needs
@@ -233,18 +208,10 @@ settle-spec =
     loop2-holds
     mul-s
     element-copy-out-s
-    room-by-requires
-    line-of-requires
-    mul-one
-    array-write-one
+    step-of-requires
     mul-step
     array-write-step
-    mul-span
-    array-write-span
-    mul-inv
-    array-write-inv
-    mul-cap
-    array-write-cap
+    set-line-requires
     add-sum
     add-i
     loop2-less
@@ -256,7 +223,7 @@ settle-spec =
     mul-s-2
     element-copy-out-s-2
     shift-one-requires
-    mul-t55
+    mul-t46
     element-set-from-end
     add-k
     loop3-less
