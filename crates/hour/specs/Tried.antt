@@ -8,20 +8,19 @@ use lib.ListN.{getD}
 use Rattle.rules.specs.Words.{if_then_else_, sumTo, findTo}
 use Rattle.rules.specs.Refusals.{Outcome, accepted, refused, refuse, andThen}
 use Rattle.rules.specs.Units.{generation, levelled}
-use Rattle.rules.specs.Sequences.{noDelivery}
+use Rattle.rules.specs.Sequences.{noDelivery, toPlace}
 use Rattle.rules.specs.Record.{noSource}
 use Rattle.rules.specs.declared.Plant.{Plant}
 use Rattle.rules.specs.declared.Plant.the-variants.{Unit as U, Purchase as P, Fixed as F}
 use Rattle.rules.specs.declared.Basis.{Basis}
 use Rattle.rules.specs.declared.Basis.the-variants.{Low, Generation, Mwh}
-use Rattle.rules.specs.declared.InputSequence.{InputSequence}
 use Rattle.rules.specs.declared.Source.{Source}
 use Rattle.rules.specs.declared.Delivery.{Delivery}
 use Rattle.rules.specs.declared.Direct.{Direct}
 use Rattle.rules.specs.declared.Hour.{Hour}
 use Rattle.rules.specs.declared.Refusal.{Refusal}
 use Rattle.rules.specs.declared.Refusal.the-variants.{Form, Range, Full, Used, Levels, Names, OtherBasis, Percents}
-use Rattle.hour.specs.Keys.{spotOf, keyFound}
+use Rattle.hour.specs.Keys.{keyFound}
 use Rattle.hour.specs.declared.Key.{Key}
 use Rattle.hour.specs.declared.Counts.{Counts}
 use Rattle.hour.specs.declared.Spot.{Spot}
@@ -151,13 +150,6 @@ generatedTo sources n = sumTo (λ i. generation (getD sources i noSource .plant)
 abbrev pub deliveredTo : List Delivery → ℕ → ℕ
 deliveredTo deliveries n = sumTo (λ i. getD deliveries i noDelivery .mwh) n
 
--- the first of n deliveries with a number of its own, or the first without
-abbrev pub placedIs : Bool → InputSequence → Bool
-placedIs true s = not (eqb (s .0) 0)
-placedIs false s = eqb (s .0) 0
-
-abbrev pub placedTo : List Delivery → Bool → ℕ → Option ℕ
-placedTo deliveries placed n = findTo (λ i. placedIs placed (getD deliveries i noDelivery .sequence)) n
-
-abbrev pub firstPlaced : List Delivery → ℕ → Bool → Spot
-firstPlaced deliveries n placed = spotOf (placedTo deliveries placed n)
+-- the first of n deliveries with a number of its own
+abbrev pub placerTo : List Delivery → ℕ → Option ℕ
+placerTo deliveries n = findTo (λ i. not (toPlace (getD deliveries i noDelivery))) n

@@ -7,12 +7,11 @@ ghost use lib.Dec.{eqb};
 ghost use Rattle.rules.specs.Units.{generation, ordered, levelled};
 ghost use Rattle.rules.specs.Reading.{generated, delivered, finished};
 ghost use Rattle.hour.specs.Keys.{halfOf, keyOf, sameKey, keyFound};
-ghost use Rattle.hour.specs.Tried.{verdictOf, entryOf, countsOf, Few, nextLine, labelTried, sourceTried, deliveryTried, unitHigh, basisCode, codeLeaves, belowMost, pairFound, directTried, generatedTo, deliveredTo, placedIs, firstPlaced};
+ghost use Rattle.hour.specs.Tried.{verdictOf, entryOf, countsOf, Few, nextLine, labelTried, sourceTried, deliveryTried, unitHigh, basisCode, codeLeaves, belowMost, pairFound, directTried, generatedTo, deliveredTo};
 use rules::Basis;
 use rules::Delivery;
 use rules::Direct;
 use rules::Hour;
-use rules::InputSequence;
 use rules::Label;
 use rules::Plant;
 use rules::Refusal;
@@ -399,48 +398,41 @@ pub fn sum_delivered(h: Hour) -> u64
     delivered_to(deliveries, h.ndeliveries)
 }
 
-fn placed_is(placed: bool, s: InputSequence) -> bool
-    ensures { λ r. ⌜ r ≡ placedIs placed s ⌝ }
-{
-    if s.0 == 0 {
-        return !placed;
-    }
-    placed
-}
-
-// The first of n deliveries with a number of its own, or the first without.
-fn first_placed(deliveries: [Delivery; 32], n: usize, placed: bool) -> Spot
-    requires { ⌜ n ≤ 32 ⌝ }
-    ensures { λ r. ⌜ r ≡ firstPlaced deliveries n placed ⌝ }
-{
-    let mut i: usize = 0;
-    while i < n {
-        let x = deliveries[i];
-        let s = x.sequence;
-        if placed_is(placed, s) {
-            return Spot::At(i);
-        }
-        i += 1;
-    }
-    Spot::Nowhere
-}
-
-// After E: 10 and 11.
+// After E: 10 and 11. It owns the loops, so that the hour is not copied.
+// Where no delivery has a number of its own, the first of all is the first without.
 pub fn finish(h: Hour) -> Verdict
     requires { ⌜ Few (countsOf h) ⌝ }
     ensures { λ r. ⌜ r ≡ verdictOf (finished h) ⌝ }
 {
-    let sources = h.sources;
-    let deliveries = h.deliveries;
-    let n = h.ndeliveries;
-    if generated_by(sources, h.nsources) < wide(h.losses) + delivered_to(deliveries, n) {
+    let mut made: u64 = 0;
+    let mut i: usize = 0;
+    while i < h.nsources {
+        let x = h.sources[i];
+        let p = x.plant;
+        made = made + wide(generation_of(p));
+        i += 1;
+    }
+    let mut taken: u64 = 0;
+    let mut j: usize = 0;
+    while j < h.ndeliveries {
+        let x = h.deliveries[j];
+        taken = taken + wide(x.mwh);
+        j += 1;
+    }
+    if made < wide(h.losses) + taken {
         return Verdict::Refused(Refusal::Overdrawn);
     }
-    let Spot::At(i) = first_placed(deliveries, n, false) else {
-        return Verdict::Accepted;
-    };
-    if let Spot::At(j) = first_placed(deliveries, n, true) {
+    if h.ndeliveries == 0 {
         return Verdict::Accepted;
     }
-    Verdict::Refused(Refusal::Unplaced(h.nsources + 2 + i))
+    let mut q: usize = 0;
+    while q < h.ndeliveries {
+        let x = h.deliveries[q];
+        let s = x.sequence;
+        if s.0 != 0 {
+            return Verdict::Accepted;
+        }
+        q += 1;
+    }
+    Verdict::Refused(Refusal::Unplaced(h.nsources + 2))
 }

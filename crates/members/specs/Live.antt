@@ -27,30 +27,23 @@ pub record Listed (sizes : List ℕ) (q : ℕ) (live : List ℕ) (k : ℕ) : Typ
   pub between : (i p : ℕ) → i < k → reached live i ≤ p → p < getD live i 0 → getD sizes p 0 ≡ 0
   pub after : (p : ℕ) → reached live k ≤ p → p < q → getD sizes p 0 ≡ 0
 
--- whether one of the four sizes from q on is not 0
-unfoldable pub anyOf : List ℕ → ℕ → Bool
-anyOf sizes q = not (eqb (getD sizes q 0) 0 && (eqb (getD sizes (q + 1) 0) 0 && (eqb (getD sizes (q + 2) 0) 0 && eqb (getD sizes (q + 3) 0) 0)))
+-- the four sizes from q on together
+unfoldable pub fourAt : List ℕ → ℕ → ℕ
+fourAt sizes q = getD sizes q 0 + getD sizes (q + 1) 0 + getD sizes (q + 2) 0 + getD sizes (q + 3) 0
 
-pub any-none : (sizes : List ℕ) (q : ℕ) → anyOf sizes q ≡ false → (p : ℕ) → q ≤ p → p < q + 4 → getD sizes p 0 ≡ 0
-unfolding anyOf
-any-none sizes q e p l m =
-    let a = both-true (zero-at q) (zero-at (q + 1) && (zero-at (q + 2) && zero-at (q + 3))) (not-false _ e) in
-    let b = both-true (zero-at (q + 1)) (zero-at (q + 2) && zero-at (q + 3)) (a .1) in
-    let c = both-true (zero-at (q + 2)) (zero-at (q + 3)) (b .1) in
-    go (a .0) (b .0) (c .0) (c .1) (p - q) (omega arith)
+pub four-none : (sizes : List ℕ) (q : ℕ) → fourAt sizes q ≡ 0 → (p : ℕ) → q ≤ p → p < q + 4 → getD sizes p 0 ≡ 0
+unfolding fourAt
+four-none sizes q e p l m = go (p - q) (omega arith)
   where
-    zero-at : ℕ → Bool
-    zero-at k = eqb (getD sizes k 0) 0
+    at : (k : ℕ) → p ≡ k → getD sizes k 0 ≡ 0 → getD sizes p 0 ≡ 0
+    at k z n = rw z n
 
-    at : (k : ℕ) → p ≡ k → zero-at k ≡ true → getD sizes p 0 ≡ 0
-    at k z n = rw z (eqb-true (getD sizes k 0) 0 n)
-
-    go : zero-at q ≡ true → zero-at (q + 1) ≡ true → zero-at (q + 2) ≡ true → zero-at (q + 3) ≡ true → (r : ℕ) → p ≡ q + r → getD sizes p 0 ≡ 0
-    go a b c d zero z = at q (omega arith) a
-    go a b c d (suc zero) z = at (q + 1) z b
-    go a b c d (suc (suc zero)) z = at (q + 2) z c
-    go a b c d (suc (suc (suc zero))) z = at (q + 3) z d
-    go a b c d (suc (suc (suc (suc r)))) z = absurd (omega arith)
+    go : (r : ℕ) → p ≡ q + r → getD sizes p 0 ≡ 0
+    go zero z = at q (omega arith) (omega arith)
+    go (suc zero) z = at (q + 1) z (omega arith)
+    go (suc (suc zero)) z = at (q + 2) z (omega arith)
+    go (suc (suc (suc zero))) z = at (q + 3) z (omega arith)
+    go (suc (suc (suc (suc r)))) z = absurd (omega arith)
 
 pub reached-more : (live : List ℕ) (k : ℕ) → reached live (k + 1) ≡ getD live k 0 + 1
 unfolding reached

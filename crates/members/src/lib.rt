@@ -8,8 +8,8 @@ ghost use lib.ListN.{length};
 ghost use Rattle.merit.specs.NumbersStaySmall.{Small};
 ghost use Rattle.rules.specs.Group.{level, upTo};
 ghost use Rattle.members.specs.Amounts.{directAdded, DirectFits, movedSizes, movedSigns};
-ghost use Rattle.members.specs.Live.{anyOf, Listed};
-ghost use Rattle.members.specs.Rows.{RowFits, Row};
+ghost use Rattle.members.specs.Live.{fourAt, Listed};
+ghost use Rattle.members.specs.Rows.{SizesSmall, RowFits, Row};
 ghost use Rattle.members.specs.Members.{MwhsSmall, scheduledIn, RowsGiven, RowsWritten};
 
 // The group's MWh.
@@ -69,21 +69,12 @@ pub fn set_moved(sizes: &mut [u64; 128], minus: &mut [bool; 128], i: usize, t: R
     minus[at + 3] = wx < wy;
 }
 
-// Whether one of four sizes is not 0.
-fn any_of(sizes: &[u64; 128], q: usize) -> bool
-    requires { ⌜ q + 4 ≤ 128 ⌝ }
-    ensures { λ r. ⌜ r ≡ anyOf (now (sizes .entry)) q ⌝ }
+// Four sizes together.
+fn four_at(sizes: &[u64; 128], q: usize) -> u64
+    requires { ⌜ (q + 4 ≤ 128) × SizesSmall (q + 4) (now sizes) ⌝ }
+    ensures { λ r. ⌜ r ≡ fourAt (now (sizes .entry)) q ⌝ }
 {
-    if sizes[q] != 0 {
-        return true;
-    }
-    if sizes[q + 1] != 0 {
-        return true;
-    }
-    if sizes[q + 2] != 0 {
-        return true;
-    }
-    sizes[q + 3] != 0
+    sizes[q] + sizes[q + 1] + sizes[q + 2] + sizes[q + 3]
 }
 
 // Place q, listed after the k before it where its size is not 0; how many are listed then.
@@ -100,13 +91,13 @@ fn push(live: &mut [usize; 128], k: usize, q: usize, sizes: &[u64; 128]) -> usiz
 
 // The places below width whose size is not 0, and how many; by fours, as a source has them.
 fn list_live(live: &mut [usize; 128], sizes: &[u64; 128], width: usize) -> usize
-    requires { ⌜ (width ≤ 128) × (width / 4 * 4 ≡ width) × (length (now live) ≡ 128) ⌝ }
+    requires { ⌜ (width ≤ 128) × (width / 4 * 4 ≡ width) × (length (now live) ≡ 128) × SizesSmall width (now sizes) ⌝ }
     ensures { λ r. ⌜ Listed (now (sizes .entry)) width (now (live .exit)) r ⌝ }
 {
     let mut k = 0;
     let mut q = 0;
     while q < width {
-        if any_of(sizes, q) {
+        if four_at(sizes, q) != 0 {
             k = push(live, k, q, sizes);
             k = push(live, k, q + 1, sizes);
             k = push(live, k, q + 2, sizes);

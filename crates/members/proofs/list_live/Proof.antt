@@ -3,7 +3,7 @@ use mathlib.Core.Logic.{⊎-elim}
 use mathlib.Core.Path.{_≡_, sym, _∙_}
 use Prim.Native.Nat.{_+_, _-_, _*_, _/_, _≤_}
 use native.Mathlib.Omega.{arith}
-use Rattle.members.specs.Live.{any-none, Listed, listed-none, listed-idle, listed-all}
+use Rattle.members.specs.Live.{four-none, Listed, listed-none, listed-idle, listed-all}
 use Rattle.members.proofs.list_live.Statement.{statement}
 use Rattle.members.proofs.list_live.Tie as tie
 
@@ -19,8 +19,8 @@ inside c = let p = c .before .before .pre in let i = c .before .loop .inv in (om
 loop-holds : tie.Need-loop-holds Inv-loop μ-loop
 loop-holds c = (omega arith, omega arith, listed-none _ _ (c .pre .2))
 
-any-of-requires : tie.Need-any-of-requires Inv-loop μ-loop
-any-of-requires c κs = inside c .1
+four-at-requires : tie.Need-four-at-requires Inv-loop μ-loop
+four-at-requires c κs = (inside c .1, λ p l. c .before .before .pre .3 p (omega (arith, inside c .0)))
 
 push-requires : tie.Need-push-requires Inv-loop μ-loop
 push-requires c κs = let h = inside (c .before .before .before) .1 in (omega arith, c .before .before .before .before .loop .inv .2)
@@ -55,7 +55,7 @@ loop-again c =
     let i = c .before .before .before .loop .inv in
     ⊎-elim
     (λ w. (h, omega (arith, i .1), rw (w .9, w .10) (listed-all _ _ _ _ _ (omega arith) (omega arith) (w .8 .ensures))))
-    (λ w. (h, omega (arith, i .1), rw (w .1, w .2) (listed-idle _ _ _ _ _ (omega arith) (any-none _ _ (sym (c .before .any-of .ensures) ∙ w .0 .left)) (i .2))))
+    (λ w. (h, omega (arith, i .1), rw (w .1, w .2) (listed-idle _ _ _ _ _ (omega arith) (four-none _ _ (sym (c .before .four-at .ensures) ∙ w .0 .left)) (i .2))))
     (c .if1 .came)
 
 returns : tie.Need-returns Inv-loop μ-loop
@@ -68,7 +68,7 @@ list-live-spec =
     Inv-loop
     μ-loop
     loop-holds
-    any-of-requires
+    four-at-requires
     push-requires
     add-push
     push-requires-2

@@ -16,7 +16,7 @@ abbrev μ-loop : tie.MeasureT-loop
 μ-loop cells₀ width n mwhs number sizes minus total numbers live places had₀ count₀ mwh₀ j₀ cells had count mwh j = n - j
 
 list-live-requires : tie.Need-list-live-requires Inv-loop μ-loop
-list-live-requires c κs = (c .before .pre .narrow, c .before .pre .fours, refl)
+list-live-requires c κs = (c .before .pre .narrow, c .before .pre .fours, refl, c .before .pre .sizes-small)
 
 loop-holds : tie.Need-loop-holds Inv-loop μ-loop
 loop-holds c = (omega arith, going-none _ _ _ _ _ _ _ _ _ (c .before .before .pre))
