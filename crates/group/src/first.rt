@@ -4,7 +4,7 @@ use curve::Rung;
 use ladder::Way;
 use rules::Running;
 ghost use mathlib.Core.Path.{_≡_};
-ghost use Prim.Native.Nat.{_≤_, _<_};
+ghost use Prim.Native.Nat.{_<_};
 ghost use lib.ListN.{length, replicate};
 ghost use Rattle.rules.specs.Words.{sumTo};
 ghost use Rattle.marks.specs.Lines.{at};

@@ -8,7 +8,7 @@ use native.Mathlib.Omega.{arith}
 use lib.ListN.{length, set, length-set}
 use lib.Seq.{getD-set-same, getD-set-other}
 use Rattle.laws.specs.Sums.{below-suc}
-use Rattle.members.specs.Amounts.{taken, Amounts, movedSizes, movedSigns, amounts-moved}
+use Rattle.members.specs.Amounts.{Amounts, movedSizes, movedSigns, amounts-moved}
 use Rattle.merit.specs.LevelNeverBelowB.{stateAt}
 use Rattle.rules.specs.Group.{noRunning, amount}
 use Rattle.rules.specs.declared.Running.{Running}

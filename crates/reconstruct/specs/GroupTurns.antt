@@ -15,8 +15,6 @@ use Rattle.group.specs.declared.Settled.{Settled}
 use Rattle.group.specs.declared.Verdict.the-variants.{Done, Refused}
 use Rattle.members.specs.Amounts.{Amounts, each-place}
 use Rattle.members.specs.Shared.{DeliveriesSmall, SourceRuns, GroupGiven, SharedInto}
-use Rattle.merit.specs.LevelNeverBelowB.{stateAt, Moved}
-use Rattle.merit.specs.RemainderMoves.{shift-moved, remainder-moves}
 use Rattle.reconstruct.specs.GroupsOneByOne.{leftAfter, directedTo, Reached, reached-start, reached-pass, reached-turn, reached-refused}
 use Rattle.reconstruct.specs.HighestNumber.{Highest}
 use Rattle.reconstruct.specs.LinesTaken.{LinesFit}
@@ -118,10 +116,6 @@ module _ (h : Hour) (ns : List InternalSequence) where
 
       -- the states after its remainder
       module _ (us : List Running) (e : remains ≡ accepted us) where
-        -- they differ in v alone
-        pub turn-moved : (i : ℕ) → Moved (stateAt ts i) (stateAt us i)
-        turn-moved i = shift-moved (turn-ready ts (w .lines) .ready i .sound) (remainder-moves _ _ _ _ ts us e .each i)
-
         pub turn-runs : SourceRuns ss ts us
         turn-runs i =
             let a = turn-ready ts (w .lines) in

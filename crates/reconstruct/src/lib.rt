@@ -1,7 +1,7 @@
 // Document 01's whole hour: every group from the highest number down, by either engine, and the answer's cells into a lent buffer.
 // The promise cites rules' Calls: reconstruction, and leaves for the buffer. The other contracts cite specs/.
 ghost use mathlib.Core.Bool.{true};
-ghost use mathlib.Core.List.{map, _++_};
+ghost use mathlib.Core.List.{_++_};
 ghost use mathlib.Core.Path.{_≡_};
 ghost use Prim.Native.Nat.{_≤_};
 ghost use lib.IntN.{pos};
@@ -22,7 +22,6 @@ use rules::InternalSequence;
 use rules::Plant;
 use rules::Refusal;
 use rules::Running;
-use rules::Source;
 
 // How many cells were written, or why none.
 pub enum Reconstructed {

@@ -1,5 +1,4 @@
 -- `members::four_at` meets its contract: no size is above 10^14.
-use mathlib.Core.Path.{_≡_}
 use Prim.Native.Nat.{_+_, _≤_}
 use native.Mathlib.Omega.{arith}
 use lib.ListN.{getD}

@@ -3,7 +3,7 @@
 use mathlib.Core.List.{map}
 use mathlib.Core.Logic.{⊎-elim}
 use mathlib.Core.Path.{_≡_, refl, sym, ap, _∙_}
-use Prim.Native.Nat.{ℕ, _-_, _≤_, _<_}
+use Prim.Native.Nat.{_-_, _≤_, _<_}
 use native.Mathlib.Omega.{arith}
 use borrow.Author.Needs.{needs}
 use borrow.Author.Tests.{eq-eqb, ne-eqb}
@@ -26,7 +26,6 @@ use Rattle.roundtrip.specs.GivenHour.{valid-given}
 use Rattle.rules.specs.Group.{remainder, opened}
 use Rattle.rules.specs.Hour.{member}
 use Rattle.rules.specs.Refusals.{accepted}
-use Rattle.rules.specs.declared.Running.{Running}
 use Rattle.shift.specs.Ready.{Ready, AllReady, took-ready, remainder-ready, Shifted, shifted-none, shifted-more, shifted-skip, shifted-all}
 use Rattle.reconstruct.proofs.take_turns.Statement.{statement}
 use Rattle.reconstruct.proofs.take_turns.Tie as tie
@@ -243,7 +242,7 @@ loop5-again c =
       omega (arith, l),
       rw (w .12, w .18) (taken-take _ _ _ _ _ (lines (c .before .before .before .before .before .before)) _ _ _ _ l (i .1) (eq-eqb _ _ (w .0 .taken)) (w .2 .ensures)),
       rw (w .12, w .17) (amounts-direct _ _ _ _ _ _ (i .2) s n _ t _ z (k .more) (k .charged) (w .6 .ensures)),
-      rw (w .12, w .13, w .14, w .15, w .16) (lines-renewed (i .3) n z (t .plant) (w .11 .ensures)),
+      rw (w .12, w .13, w .14, w .15, w .16) (lines-renewed (i .3) n s z (t .plant) (w .11 .ensures)),
       rw (w .12) (length-set ((c .before .before .before .before .before) .loop5 .states) (lineAt ((c .before .before .before .before .before .before .before .before .before .before .before .before .before .before .before .before) .args .t1 .directs) ((c .before .before .before .before .before) .loop5 .q) .source) (w .2 .result) ∙ i .4),
     ))
     (λ w. (
@@ -336,7 +335,7 @@ loop6-again c =
       omega (arith, l),
       rw (w .11) (shifted-more _ _ _ _ _ _ (i-small (c .before)) ((c .before .before .before .before .before .before .before .before .before .before .before .before .before .before .before) .loop5 .inv .4) (i .1) (w .2 .ensures)),
       rw (w .11, w .16, w .17) (λ ss a. amounts-moved ss _ _ _ _ _ _ (i .2 ss a) l n z _ _ (same-state (c .before)) _ _ (w .5 .ensures .0) (w .5 .ensures .1)),
-      rw (w .11, w .12, w .13, w .14, w .15) (lines-renewed (i .3) n z (shifted-plant (ltb ((c .before .before .before .before .before .before .before .before .before .before .before .before) .total-of .result) ((c .before .before .before .before .before .before .before .before .before .before .before .before .before .before .before) .loop5 .took)) (stateAt ((c .before .before) .loop6 .states) ((c .before .before) .loop6 .i)) (w .2 .result) (at ((c .before .before .before .before) .take-first .last .1 .1 .1 .1 .1 .1 .1 .1 .1 .0) ((c .before .before) .loop6 .i)) (w .2 .ensures)) (w .10 .ensures)),
+      rw (w .11, w .12, w .13, w .14, w .15) (lines-renewed (i .3) n l z (shifted-plant (ltb ((c .before .before .before .before .before .before .before .before .before .before .before .before) .total-of .result) ((c .before .before .before .before .before .before .before .before .before .before .before .before .before .before .before) .loop5 .took)) (stateAt ((c .before .before) .loop6 .states) ((c .before .before) .loop6 .i)) (w .2 .result) (at ((c .before .before .before .before) .take-first .last .1 .1 .1 .1 .1 .1 .1 .1 .1 .0) ((c .before .before) .loop6 .i)) (w .2 .ensures)) (w .10 .ensures)),
       rw (w .11) (length-set ((c .before .before) .loop6 .states) ((c .before .before) .loop6 .i) (w .2 .result) ∙ i .4),
     ))
     (λ w. (

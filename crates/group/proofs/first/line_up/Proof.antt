@@ -1,5 +1,4 @@
 -- `group::first::line_up` meets its contract: the lines of the sources so far.
-use mathlib.Core.Path.{_≡_, refl}
 use Prim.Native.Nat.{_-_, _≤_}
 use native.Mathlib.Omega.{arith}
 use Rattle.group.specs.FirstWay.{FirstLines, lines-none, lines-next, lines-all}

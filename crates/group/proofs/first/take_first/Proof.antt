@@ -1,6 +1,4 @@
 -- `group::first::take_first` meets its contract.
-use mathlib.Core.Bool.{true, false}
-use mathlib.Core.Path.{_≡_}
 use Rattle.group.proofs.first.take_first.Statement.{statement}
 use Rattle.group.proofs.first.take_first.Tie as tie
 

@@ -1,8 +1,6 @@
 -- `group::first::take_within` meets its contract.
-use Prim.Native.Nat.{_≤_}
 use native.Mathlib.Omega.{arith}
 use Rattle.group.specs.FirstWay.{rooms-small, first-none, first-all}
-use borrow.Author.Needs.{needs}
 use Rattle.group.proofs.first.take_within.Statement.{statement}
 use Rattle.group.proofs.first.take_within.Tie as tie
 
