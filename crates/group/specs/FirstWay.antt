@@ -6,7 +6,8 @@ use Prim.Native.Nat.{ℕ, _+_, _≤_, _<_}
 use native.Mathlib.Decide.{ℕ-discrete}
 use native.Mathlib.Numerals.{add-one}
 use native.Mathlib.Omega.{arith}
-use lib.Dec.{ltb}
+use borrow.Author.Tests.{le-leb, lt-leb, leb-true}
+use lib.Dec.{leb, ltb}
 use lib.ListN.{length, set, length-set}
 use lib.Seq.{getD-set-same, getD-set-other}
 use Rattle.curve.specs.declared.Rung.the-variants.{Normal}
@@ -59,16 +60,16 @@ pub record RoomsSmall (cap : List ℕ) (n : ℕ) : Type 0 where
 pub rooms-small : {one step cap : List ℕ} {n : ℕ} → Sources one step cap n → RoomsSmall cap n
 rooms-small s = record { n-small = s .n-small; each = λ i l. s .falls i l .cap-small }
 
--- what the first way takes, where it has room
+-- whether the first way has room, and what it takes then
 pub record FirstTaken (up : Bool) (one step cap : List ℕ) (n rest : ℕ) (enough : Bool) (t : List ℕ) : Type 0 where
-  pub room : enough ≡ true → rest ≤ sumTo (at cap) n
+  pub room : enough ≡ leb rest (sumTo (at cap) n)
   pub taken : enough ≡ true → Taken up one step cap n rest t
 
-pub first-none : {up : Bool} {one step cap : List ℕ} {n rest : ℕ} {t : List ℕ} → FirstTaken up one step cap n rest false t
-first-none = record { room = λ e. false-not-true e; taken = λ e. false-not-true e }
+pub first-none : {up : Bool} {one step cap : List ℕ} {n rest : ℕ} {t : List ℕ} → sumTo (at cap) n < rest → FirstTaken up one step cap n rest false t
+first-none {cap = cap} {n = n} {rest = rest} h = record { room = sym (lt-leb rest (sumTo (at cap) n) h); taken = λ e. false-not-true e }
 
 pub first-all : {up : Bool} {one step cap : List ℕ} {n rest : ℕ} {t : List ℕ} → rest ≤ sumTo (at cap) n → Taken up one step cap n rest t → FirstTaken up one step cap n rest true t
-first-all h t = record { room = λ e. h; taken = λ e. t }
+first-all {cap = cap} {n = n} {rest = rest} h t = record { room = sym (le-leb rest (sumTo (at cap) n) h); taken = λ e. t }
 
 -- Lines, source by source.
 
@@ -152,7 +153,7 @@ module _ {ss : List Running} {step down room above head : List ℕ} {n : ℕ} (f
         let way = wayAt (ltb total took) 0 in
         let lines = first-lines (ltb total took) in
         let taken : Taken (upOf way) (pick (ltb total took) down above) step (pick (ltb total took) room head) n rest t = rw (side (ltb total took)) (f .taken refl) in
-        let room : rest ≤ all (wayOf way .room) ss n = omega (arith, f .room refl, sumTo-same n (at (pick (ltb total took) room head)) (λ i. wayOf way .room (stateAt ss i)) (lines .rooms)) in
+        let room : rest ≤ all (wayOf way .room) ss n = omega (arith, leb-true rest (sumTo (at (pick (ltb total took) room head)) n) (sym (f .room)), sumTo-same n (at (pick (ltb total took) room head)) (λ i. wayOf way .room (stateAt ss i)) (lines .rooms)) in
         record {
           within = λ i l. rw (side (ltb total took)) at (taken-within way lines ready taken .within i l);
           ready = λ i l. shift-first (ltb total took) (stateAt ss i) (at t i) (ready .ready i) (omega (arith, taken .settled .fits i l, lines .rooms i l));

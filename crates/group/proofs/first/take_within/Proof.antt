@@ -8,7 +8,7 @@ sum-of-requires : tie.Need-sum-of-requires
 sum-of-requires c κs = rooms-small (c .pre .0)
 
 returns : tie.Need-returns
-returns c = first-none
+returns c = first-none (omega (arith, c .if1 .taken, c .before .sum-of .ensures))
 
 take-requires : tie.Need-take-requires
 take-requires c κs = (c .before .before .before .pre .0, (omega (arith, c .before .if1 .left, c .before .before .sum-of .ensures), c .before .before .before .pre .1))
