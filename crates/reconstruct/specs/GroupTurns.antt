@@ -16,7 +16,6 @@ use Rattle.group.specs.declared.Verdict.the-variants.{Done, Refused}
 use Rattle.members.specs.Amounts.{Amounts, each-place}
 use Rattle.members.specs.Shared.{DeliveriesSmall, SourceRuns, GroupGiven, SharedInto}
 use Rattle.reconstruct.specs.GroupsOneByOne.{leftAfter, directedTo, Reached, reached-start, reached-pass, reached-turn, reached-refused}
-use Rattle.reconstruct.specs.HighestNumber.{Highest}
 use Rattle.reconstruct.specs.LinesTaken.{LinesFit}
 use Rattle.reconstruct.specs.StatesStayReady.{Standing, groups-stand, lines-took, lines-ready, lines-fit}
 use Rattle.roundtrip.specs.GivenHour.{valid-given}
@@ -28,6 +27,7 @@ use Rattle.rules.specs.declared.Hour.{Hour}
 use Rattle.rules.specs.declared.InternalSequence.{InternalSequence}
 use Rattle.rules.specs.declared.Refusal.{Refusal}
 use Rattle.rules.specs.declared.Running.{Running}
+use Rattle.sequence.specs.HighestNumber.{Highest}
 use Rattle.shift.specs.Ready.{AllReady, remainder-ready}
 
 refused-not-done : {A : Type 0} {y : Refusal} → Refused y ≡ Done → A

@@ -3,7 +3,6 @@ pub mod StatesOpened
 pub mod MwhsListed
 pub mod LinesTaken
 pub mod StatesStayReady
-pub mod HighestNumber
 pub mod GroupsOneByOne
 pub mod CellsWritten
 pub mod CellsCopied

@@ -10,7 +10,6 @@ ghost use Rattle.rules.specs.Calls.{reconstruction, leaves};
 ghost use Rattle.rules.specs.Group.{opened};
 ghost use Rattle.rules.specs.Writing.{valid};
 ghost use Rattle.reconstruct.specs.Answers.{reconstructedOf};
-ghost use Rattle.reconstruct.specs.HighestNumber.{above, Highest};
 ghost use Rattle.shift.specs.Ready.{AllReady};
 ghost use Rattle.reconstruct.specs.AllMoved.{Retold};
 ghost use Rattle.reconstruct.specs.GroupTurns.{Turned};
@@ -42,34 +41,6 @@ pub fn open(p: Plant) -> Running
         percent: 0,
         paid: 0,
     }
-}
-
-// The greater of best and one more than y, where y is below x.
-fn higher(x: u32, y: u32, best: u32) -> u32
-    ensures { λ r. ⌜ r ≡ above x y best ⌝ }
-{
-    if x <= y {
-        return best;
-    }
-    if y < best {
-        return best;
-    }
-    y + 1
-}
-
-// One more than the highest number below x of the first n deliveries, or 0.
-fn highest(numbers: [InternalSequence; 32], n: usize, x: u32) -> u32
-    requires { ⌜ n ≤ 32 ⌝ }
-    ensures { λ r. ⌜ Highest numbers n x r ⌝ }
-{
-    let mut best = 0;
-    let mut j = 0;
-    while j < n {
-        let y = numbers[j];
-        best = higher(x, y.0, best);
-        j += 1;
-    }
-    best
 }
 
 fn cell(x: u64) -> i64
@@ -169,7 +140,7 @@ fn take_turns(
         group::first::renew(&mut down, &mut room, &mut above, &mut head, b, s);
         b += 1;
     }
-    let mut x = highest(numbers, h.ndeliveries, 1000);
+    let mut x = sequence::highest(numbers, h.ndeliveries, 1000);
     while 0 < x {
         let number = x - 1;
         let k = h.ndirects;
@@ -251,7 +222,7 @@ fn take_turns(
             &minus,
             total,
         );
-        x = highest(numbers, h.ndeliveries, number);
+        x = sequence::highest(numbers, h.ndeliveries, number);
     }
     Settled {
         verdict: Verdict::Done,

@@ -1,16 +1,17 @@
-// Each delivery's internal number: ten times its input number, or a place beside those of deliveries that have one.
+// Each delivery's internal number: ten times its input number, or a place beside those of deliveries that have one; and the next lower number that one has.
 // The contracts cite `placings` of specs/, rules' `numbered` of each delivery. The search reads columns; its contracts speak of any deliveries that have them.
 use rules::Delivery;
 use rules::InternalSequence;
 ghost use mathlib.Core.Bool.{true, _&&_};
 ghost use mathlib.Core.List.{List};
 ghost use mathlib.Core.Path.{_≡_};
-ghost use Prim.Native.Nat.{_<_, min, max};
+ghost use Prim.Native.Nat.{_≤_, _<_, min, max};
 ghost use lib.Dec.{eqb};
 ghost use Rattle.rules.specs.declared.Delivery.{Delivery};
 ghost use Rattle.sequence.specs.Columns.{Columns, Ranged, fits, inputIf, betterOf, Best, sought, under};
 ghost use Rattle.sequence.specs.RuleByRule.{Placing, Numbering};
 ghost use Rattle.sequence.specs.Placings.{Placeable, placings};
+ghost use Rattle.sequence.specs.HighestNumber.{above, Highest};
 
 // The deliveries that a rule looks for: of a type and block, of a type, or any.
 enum Sought {
@@ -224,4 +225,32 @@ pub fn numbers(ts: [Delivery; 32], n: usize) -> [InternalSequence; 32]
         i += 1;
     }
     number_all(&kinds, &blocks, &inputs, n)
+}
+
+// The greater of best and one more than y, where y is below x.
+fn higher(x: u32, y: u32, best: u32) -> u32
+    ensures { λ r. ⌜ r ≡ above x y best ⌝ }
+{
+    if x <= y {
+        return best;
+    }
+    if y < best {
+        return best;
+    }
+    y + 1
+}
+
+// One more than the highest number below x of the first n deliveries, or 0.
+pub fn highest(numbers: [InternalSequence; 32], n: usize, x: u32) -> u32
+    requires { ⌜ n ≤ 32 ⌝ }
+    ensures { λ r. ⌜ Highest numbers n x r ⌝ }
+{
+    let mut best = 0;
+    let mut j = 0;
+    while j < n {
+        let y = numbers[j];
+        best = higher(x, y.0, best);
+        j += 1;
+    }
+    best
 }

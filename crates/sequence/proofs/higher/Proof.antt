@@ -1,8 +1,8 @@
--- `reconstruct::higher` meets its contract: one case of `above` a way.
+-- `sequence::higher` meets its contract: one case of `above` a way.
 use borrow.Author.Needs.{needs}
-use Rattle.reconstruct.specs.HighestNumber.{above-none, above-less, above-more}
-use Rattle.reconstruct.proofs.higher.Statement.{statement}
-use Rattle.reconstruct.proofs.higher.Tie as tie
+use Rattle.sequence.specs.HighestNumber.{above-none, above-less, above-more}
+use Rattle.sequence.proofs.higher.Statement.{statement}
+use Rattle.sequence.proofs.higher.Tie as tie
 
 returns : tie.Need-returns
 returns c = above-none _ _ _ (c .if1 .taken)

@@ -1,11 +1,11 @@
--- `reconstruct::highest` meets its contract: best is that of the deliveries seen.
+-- `sequence::highest` meets its contract: best is that of the deliveries seen.
 use mathlib.Core.Path.{_≡_}
 use Prim.Native.Nat.{_-_, _≤_}
 use native.Mathlib.Omega.{arith}
 use borrow.Author.Needs.{needs}
-use Rattle.reconstruct.specs.HighestNumber.{highestTo, highest-none, highest-more, highest-end, highest-is}
-use Rattle.reconstruct.proofs.highest.Statement.{statement}
-use Rattle.reconstruct.proofs.highest.Tie as tie
+use Rattle.sequence.specs.HighestNumber.{highestTo, highest-none, highest-more, highest-end, highest-is}
+use Rattle.sequence.proofs.highest.Statement.{statement}
+use Rattle.sequence.proofs.highest.Tie as tie
 
 abbrev Inv-loop : tie.InvT-loop
 Inv-loop n x numbers best₀ j₀ best j = (j ≤ n) × (best ≡ highestTo numbers x j)
