@@ -1,5 +1,5 @@
 pub mod Shared
-pub mod Amounts
 pub mod Live
 pub mod Rows
 pub mod Members
+pub mod Leads

@@ -1,15 +1,15 @@
-// The shares of one group's members, written into the hour's cells.
-// The contracts cite `level` and `upTo` of rules' Group, merit's NumbersStaySmall for what fits, and specs/, which has them in the hour's words.
+// The members of a group: its MWh, its first member, and the members' shares of what it takes, written into the hour's cells.
+// The contracts cite `upTo` of rules' Group and specs/, which has them in the hour's words; amounts are read from the rows that `amounts` keeps.
 use rules::InternalSequence;
-use rules::Running;
+ghost use mathlib.Core.Bool.{false};
 ghost use mathlib.Core.Path.{_≡_};
-ghost use Prim.Native.Nat.{_+_, _-_, _*_, _/_, _≤_, _<_};
+ghost use Prim.Native.Nat.{ℕ, _+_, _*_, _≤_, _<_};
 ghost use lib.ListN.{length};
-ghost use Rattle.merit.specs.NumbersStaySmall.{Small};
-ghost use Rattle.rules.specs.Group.{level, upTo};
-ghost use Rattle.members.specs.Amounts.{directAdded, DirectFits, movedSizes, movedSigns};
-ghost use Rattle.members.specs.Live.{fourAt, Listed};
-ghost use Rattle.members.specs.Rows.{SizesSmall, RowFits, Row};
+ghost use Rattle.rules.specs.Group.{Amount, upTo};
+ghost use Rattle.rules.specs.Hour.{counted, internalAt};
+ghost use Rattle.members.specs.Leads.{Lead, AllGiven, AllShared};
+ghost use Rattle.members.specs.Live.{amountAt, Listed};
+ghost use Rattle.members.specs.Rows.{RowReady, RowFits, Row};
 ghost use Rattle.members.specs.Members.{MwhsSmall, scheduledIn, RowsGiven, RowsWritten};
 
 // The group's MWh.
@@ -29,81 +29,111 @@ pub fn total_of(mwhs: &[u64; 32], n: usize, numbers: [InternalSequence; 32], num
     sum
 }
 
-fn distance(x: u64, y: u64) -> u64
-    ensures { λ r. ⌜ r ≡ (x - y) + (y - x) ⌝ }
+// The group's first member in deck order.
+pub fn lead_of(numbers: [InternalSequence; 32], n: usize, number: u32) -> usize
+    requires { ⌜ (n ≤ 32) × (0 < counted numbers number n) ⌝ }
+    ensures { λ r. ⌜ Lead numbers n number r ⌝ }
 {
-    if x < y {
-        return y - x;
+    let mut j = 0;
+    while j < n {
+        let x = numbers[j];
+        if x.0 == number {
+            return j;
+        }
+        j += 1;
     }
-    x - y
+    0
 }
 
-// A D line's amounts from source i, which it found at s and left at t, added to the group's.
-pub fn add_direct(sizes: &mut [u64; 128], i: usize, s: Running, t: Running)
-    requires { ⌜ DirectFits i s t (now sizes) ⌝ }
-    ensures { λ _. ⌜ now (sizes .exit) ≡ directAdded (now (sizes .entry)) i s t ⌝ }
-{
-    let at = i * 4;
-    let mwh = sizes[at];
-    let paid = sizes[at + 2];
-    sizes[at] = mwh + (t.d - s.d) as u64;
-    sizes[at + 2] = paid + (t.paid - s.paid);
-}
-
-// The remainder's amounts from source i, moved from t to u: their sizes and signs.
-pub fn set_moved(sizes: &mut [u64; 128], minus: &mut [bool; 128], i: usize, t: Running, u: Running)
-    requires { ⌜ i < 32 ⌝ }
-    requires before { ⌜ Small t × (level t ≤ 4000) ⌝ }
-    requires after { ⌜ Small u × (level u ≤ 4000) ⌝ }
-    ensures sizes { λ _. ⌜ now (sizes .exit) ≡ movedSizes (now (sizes .entry)) i t u ⌝ }
-    ensures signs { λ _. ⌜ now (minus .exit) ≡ movedSigns (now (minus .entry)) i t u ⌝ }
-{
-    let x = t.v + t.d;
-    let y = u.v + u.d;
-    let wx = curve::changed_cost(t, x);
-    let wy = curve::changed_cost(u, y);
-    let at = i * 4;
-    sizes[at + 1] = distance(x as u64, y as u64);
-    minus[at + 1] = x < y;
-    sizes[at + 3] = distance(wx, wy);
-    minus[at + 3] = wx < wy;
-}
-
-// Four sizes together.
-fn four_at(sizes: &[u64; 128], q: usize) -> u64
-    requires { ⌜ (q + 4 ≤ 128) × SizesSmall (q + 4) (now sizes) ⌝ }
-    ensures { λ r. ⌜ r ≡ fourAt (now (sizes .entry)) q ⌝ }
-{
-    sizes[q] + sizes[q + 1] + sizes[q + 2] + sizes[q + 3]
-}
-
-// Place q, listed after the k before it where its size is not 0; how many are listed then.
-fn push(live: &mut [usize; 128], k: usize, q: usize, sizes: &[u64; 128]) -> usize
-    requires { ⌜ (q < 128) × Listed (now sizes) q (now live) k ⌝ }
-    ensures { λ r. ⌜ Listed (now (sizes .entry)) (q + 1) (now (live .exit)) r ⌝ }
+// The amount of place q, listed after the k before it where its size is not 0; how many are listed then.
+fn push(
+    live: &mut [usize; 128],
+    sizes: &mut [u64; 128],
+    minus: &mut [bool; 128],
+    k: usize,
+    q: usize,
+    size: u64,
+    sign: bool,
+) -> usize
+    requires { ⌜ (q < 128) × (k ≤ q) × (length (now live) ≡ 128) × (length (now sizes) ≡ 128) × (length (now minus) ≡ 128) ⌝ }
+    ensures { λ r. ⌜ ((a : ℕ → Amount) → Listed a q (now (live .entry)) (now (sizes .entry)) (now (minus .entry)) k → size ≡ a q .size → sign ≡ a q .minus → Listed a (q + 1) (now (live .exit)) (now (sizes .exit)) (now (minus .exit)) r) ⌝ }
 {
     live[k] = q;
-    if sizes[q] != 0 {
+    sizes[k] = size;
+    minus[k] = sign;
+    if size != 0 {
         return k + 1;
     }
     k
 }
 
-// The places below width whose size is not 0, and how many; by fours, as a source has them.
-fn list_live(live: &mut [usize; 128], sizes: &[u64; 128], width: usize) -> usize
-    requires { ⌜ (width ≤ 128) × (width / 4 * 4 ≡ width) × (length (now live) ≡ 128) × SizesSmall width (now sizes) ⌝ }
-    ensures { λ r. ⌜ Listed (now (sizes .entry)) width (now (live .exit)) r ⌝ }
+fn some(x: u64, y: u64) -> bool
+    ensures { λ r. ⌜ (r ≡ false → (x ≡ 0) × (y ≡ 0)) ⌝ }
+{
+    if x != 0 {
+        return true;
+    }
+    y != 0
+}
+
+// The places of a row of n sources whose size is not 0, with their amounts, and how many.
+fn list_live(
+    live: &mut [usize; 128],
+    sizes: &mut [u64; 128],
+    minus: &mut [bool; 128],
+    direct: &[u64; 1024],
+    moved: &[u64; 1024],
+    from: usize,
+    n: usize,
+) -> usize
+    requires { ⌜ (n ≤ 32) × (from + n ≤ 1024) × (length (now live) ≡ 128) × (length (now sizes) ≡ 128) × (length (now minus) ≡ 128) ⌝ }
+    ensures { λ r. ⌜ Listed (amountAt (now (direct .entry)) (now (moved .entry)) from) (n * 4) (now (live .exit)) (now (sizes .exit)) (now (minus .exit)) r ⌝ }
 {
     let mut k = 0;
-    let mut q = 0;
-    while q < width {
-        if four_at(sizes, q) != 0 {
-            k = push(live, k, q, sizes);
-            k = push(live, k, q + 1, sizes);
-            k = push(live, k, q + 2, sizes);
-            k = push(live, k, q + 3, sizes);
+    let mut i = 0;
+    while i < n {
+        let d = direct[from + i];
+        let m = moved[from + i];
+        if some(d, m) {
+            let q = i * 4;
+            k = push(
+                live,
+                sizes,
+                minus,
+                k,
+                q,
+                amounts::mwh_of(d),
+                amounts::mwh_minus(d),
+            );
+            k = push(
+                live,
+                sizes,
+                minus,
+                k,
+                q + 1,
+                amounts::mwh_of(m),
+                amounts::mwh_minus(m),
+            );
+            k = push(
+                live,
+                sizes,
+                minus,
+                k,
+                q + 2,
+                amounts::cost_of(d),
+                amounts::cost_minus(d),
+            );
+            k = push(
+                live,
+                sizes,
+                minus,
+                k,
+                q + 3,
+                amounts::cost_of(m),
+                amounts::cost_minus(m),
+            );
         }
-        q += 4;
+        i += 1;
     }
     k
 }
@@ -133,43 +163,55 @@ fn share_row(
     count: u64,
     mwh: u64,
 )
-    requires { ⌜ RowFits at width total count mwh (now sizes) (now had) (now cells) × Listed (now sizes) width (now live) places ⌝ }
-    ensures { λ _. ⌜ Row at total count mwh (now (sizes .entry)) (now (minus .entry)) (now (had .entry)) (now (cells .entry)) width (now (had .exit)) (now (cells .exit)) ⌝ }
+    requires { ⌜ RowReady at width total count mwh (now live) (now sizes) (now minus) places (now had) (now cells) ⌝ }
+    ensures { λ _. ⌜ ((a : ℕ → Amount) → RowFits at width total count mwh a (now (had .entry)) (now (cells .entry)) → Listed a width (now (live .entry)) (now (sizes .entry)) (now (minus .entry)) places → Row at total count mwh a (now (had .entry)) (now (cells .entry)) width (now (had .exit)) (now (cells .exit))) ⌝ }
 {
     let mut k = 0;
     while k < places {
         let q = live[k];
-        let with = part(total, sizes[q], count, mwh);
-        cells[at + q] = shares::share_of(minus[q], with, had[q]);
+        let with = part(total, sizes[k], count, mwh);
+        cells[at + q] = shares::share_of(minus[k], with, had[q]);
         had[q] = with;
         k += 1;
     }
 }
 
-// The members' rows in deck order, where 0 stood; each has width places.
-pub fn share_rows(
+// The rows of one group's members in deck order, where 0 stood; each has four places a source. The group's first member leads it.
+fn share_rows(
     cells: &mut [i64],
-    width: usize,
+    sources: usize,
     n: usize,
     mwhs: &[u64; 32],
     numbers: [InternalSequence; 32],
-    number: u32,
-    sizes: &[u64; 128],
-    minus: &[bool; 128],
+    lead: usize,
     total: u64,
+    direct: &[u64; 1024],
+    moved: &[u64; 1024],
 )
-    requires { ⌜ RowsGiven width n (now mwhs) numbers number total (now sizes) (now cells) ⌝ }
-    ensures { λ _. ⌜ RowsWritten width n (now (mwhs .entry)) numbers number total (now (sizes .entry)) (now (minus .entry)) (now (cells .entry)) (now (cells .exit)) ⌝ }
+    requires { ⌜ (lead < 32) × (sources ≤ 32) × RowsGiven (sources * 4) n (now mwhs) numbers (internalAt numbers lead) total (amountAt (now direct) (now moved) (lead * 32)) (now cells) ⌝ }
+    ensures { λ _. ⌜ RowsWritten (sources * 4) n (now (mwhs .entry)) numbers (internalAt numbers lead) total (amountAt (now (direct .entry)) (now (moved .entry)) (lead * 32)) (now (cells .entry)) (now (cells .exit)) ⌝ }
 {
+    let width = sources * 4;
     let mut live: [usize; 128] = [0; 128];
-    let places = list_live(&mut live, sizes, width);
+    let mut sizes: [u64; 128] = [0; 128];
+    let mut minus: [bool; 128] = [false; 128];
+    let places = list_live(
+        &mut live,
+        &mut sizes,
+        &mut minus,
+        direct,
+        moved,
+        lead * 32,
+        sources,
+    );
     let mut had: [u64; 128] = [0; 128];
+    let number = numbers[lead];
     let mut count: u64 = 0;
     let mut mwh: u64 = 0;
     let mut j = 0;
     while j < n {
         let x = numbers[j];
-        if x.0 == number {
+        if x.0 == number.0 {
             count += 1;
             mwh += mwhs[j];
             share_row(
@@ -178,13 +220,37 @@ pub fn share_rows(
                 width,
                 &live,
                 places,
-                sizes,
-                minus,
+                &sizes,
+                &minus,
                 &mut had,
                 total,
                 count,
                 mwh,
             );
+        }
+        j += 1;
+    }
+}
+
+// The rows of all groups. A delivery that leads one has one more than its MWh in led, the others have 0.
+pub fn share_all(
+    cells: &mut [i64],
+    sources: usize,
+    n: usize,
+    mwhs: &[u64; 32],
+    numbers: [InternalSequence; 32],
+    led: &[u64; 32],
+    direct: &[u64; 1024],
+    moved: &[u64; 1024],
+)
+    requires { ⌜ AllGiven sources n (now mwhs) numbers (now led) (now direct) (now moved) (now cells) ⌝ }
+    ensures { λ _. ⌜ AllShared sources n (now (mwhs .entry)) numbers (now (led .entry)) (now (direct .entry)) (now (moved .entry)) (now (cells .entry)) (now (cells .exit)) ⌝ }
+{
+    let mut j = 0;
+    while j < n {
+        let t = led[j];
+        if 0 < t {
+            share_rows(cells, sources, n, mwhs, numbers, j, t - 1, direct, moved);
         }
         j += 1;
     }

@@ -11,22 +11,24 @@ use lib.ListN.{length, getD, set, take, length-set}
 use lib.Seq.{length-take-le, getD-take, getD-set-same, getD-set-other, ext-getD}
 use Rattle.balance.specs.AnswerCells.{cellAt, pairPlace, openPlace, pair-at, open-at, cells-length}
 use Rattle.laws.specs.Sums.{below-suc}
-use Rattle.members.specs.Amounts.{each-place}
-use Rattle.members.specs.Shared.{placeOf, place-small}
+use Rattle.members.specs.Shared.{placeOf, place-small, each-place, cellsIn}
 use Rattle.merit.specs.LevelNeverBelowB.{stateAt}
 use Rattle.merit.specs.NumbersStaySmall.{level-small, changed-small}
-use Rattle.reconstruct.specs.GroupsOneByOne.{Held}
 use Rattle.rules.specs.Group.{Item, directMwh, incrementalMwh, directCost, incrementalCost, openCost}
 use Rattle.rules.specs.Hour.{Cells, Progress, pairCells, openCells, cellsOf, cellCount}
 use Rattle.rules.specs.declared.Hour.{Hour}
 use Rattle.rules.specs.declared.Running.{Running}
 use Rattle.shift.specs.Ready.{Ready, AllReady}
 
+-- lent cells that have what a run has given
+pub record Held (h : Hour) (xs : List ℤ) (cells : Cells) : Type 0 where
+  pub at : (j i : ℕ) (item : Item) → j < h .ndeliveries → i < h .nsources → cellsIn h xs j i item ≡ cells j i item
+
 -- where the open energy of n sources may be put
 pub record OpenFits (ss : List Running) (at n : ℕ) (xs : List ℤ) : Type 0 where
   pub ready : AllReady ss n
-  pub long : length xs ≡ 4160
-  pub room : at + n * 2 ≤ 4160
+  pub low : at ≤ 4096
+  pub room : at + n * 2 ≤ length xs
 
 -- of xs, ys with the open MWh and open cost of n sources from a place on
 pub record OpenPut (ss : List Running) (at n : ℕ) (xs ys : List ℤ) : Type 0 where
@@ -34,6 +36,7 @@ pub record OpenPut (ss : List Running) (at n : ℕ) (xs ys : List ℤ) : Type 0 
   pub kept : (m : ℕ) → m < at → cellAt ys m ≡ cellAt xs m
   pub mwh : (i : ℕ) → i < n → cellAt ys (at + i * 2) ≡ pos (stateAt ss i .v)
   pub grains : (i : ℕ) → i < n → cellAt ys (at + i * 2 + 1) ≡ pos (openCost (stateAt ss i))
+  pub beyond : (m : ℕ) → at + n * 2 ≤ m → cellAt ys m ≡ cellAt xs m
 
 -- what the open energy of a source costs fits a cell
 pub open-cost-small : (s : Running) → Ready s → openCost s ≤ 100_000_000_000_000
@@ -52,7 +55,7 @@ module _ (xs : List ℤ) (a : ℕ) (v c : ℤ) where
 
 module _ (ss : List Running) (at : ℕ) (xs : List ℤ) where
   pub open-none : OpenPut ss at 0 xs xs
-  open-none = record { long = refl; kept = λ m l. refl; mwh = λ i l. absurd (omega arith); grains = λ i l. absurd (omega arith) }
+  open-none = record { long = refl; kept = λ m l. refl; mwh = λ i l. absurd (omega arith); grains = λ i l. absurd (omega arith); beyond = λ m l. refl }
 
   pub open-more : (n : ℕ) (ys : List ℤ) (v c : ℤ) → at + n * 2 + 1 < length xs → OpenPut ss at n xs ys → v ≡ pos (stateAt ss n .v) → c ≡ pos (openCost (stateAt ss n)) →
       OpenPut ss at (n + 1) xs (set (set ys (at + n * 2) v) (at + n * 2 + 1) c)
@@ -69,6 +72,7 @@ module _ (ss : List Running) (at : ℕ) (xs : List ℤ) where
             (below-suc (λ i. cellAt (set (set ys a v) (a + 1) c) (at + i * 2 + 1) ≡ pos (openCost (stateAt ss i))) n
             (λ i b. two-other ys a v c (at + i * 2 + 1) (λ q. omega arith) (λ q. omega arith) ∙ p .grains i b)
             (two-second ys a v c (omega (arith, p .long)) ∙ f));
+        beyond = λ m b. two-other ys a v c m (λ q. omega arith) (λ q. omega arith) ∙ p .beyond m (omega arith);
       }
 
   pub open-end : (n i : ℕ) (ys : List ℤ) → i ≤ n → n ≤ i → OpenPut ss at i xs ys → OpenPut ss at n xs ys

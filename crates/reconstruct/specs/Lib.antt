@@ -1,11 +1,4 @@
 pub mod Answers
-pub mod StatesOpened
-pub mod MwhsListed
-pub mod LinesTaken
-pub mod StatesStayReady
-pub mod GroupsOneByOne
+pub mod CellsCleared
 pub mod CellsWritten
-pub mod CellsCopied
-pub mod GroupTurns
 pub mod WholeAnswer
-pub mod AllMoved

@@ -3,23 +3,28 @@ use mathlib.Core.Bool.{true, false}
 use mathlib.Core.List.{List, _++_}
 use mathlib.Core.Path.{_≡_, refl, sym, ap, _∙_}
 use Prim.Native.Nat.{ℕ, _+_, _*_, _≤_, _<_}
+use native.Mathlib.Nat.{mul-le-mul}
 use native.Mathlib.Omega.{arith}
-use borrow.Author.Tests.{lt-ltb, le-ltb}
-use lib.IntN.{ℤ}
-use lib.ListN.{length, take, drop}
-use Rattle.balance.specs.AnswerCells.{cells-length}
+use borrow.Author.Tests.{lt-ltb, le-ltb, eq-eqb, eqb-true}
+use lib.IntN.{ℤ, pos}
+use lib.ListN.{length, getD, take, drop, length-drop, take-append-drop}
+use lib.Seq.{getD-drop, ext-getD}
+use Rattle.accounts.specs.EveryGroupIsDone.{every-group-is-done}
+use Rattle.amounts.specs.Amounts.{told}
+use Rattle.balance.specs.AnswerCells.{cellAt, cells-length}
 use Rattle.group.specs.declared.Settled.{Settled}
 use Rattle.group.specs.declared.Verdict.the-variants as verdict
+use Rattle.members.specs.Leads.{AllGiven, AllShared, all-given, all-shared}
+use Rattle.members.specs.Members.{MwhsOf}
+use Rattle.members.specs.Shared.{DeliveriesSmall}
 use Rattle.reconstruct.specs.Answers.{reconstructedOf}
-use Rattle.reconstruct.specs.CellsWritten.{OpenFits, OpenPut, cells-written}
-use Rattle.reconstruct.specs.GroupTurns.{Turned, cells-few}
-use Rattle.reconstruct.specs.GroupsOneByOne.{Reached}
-use Rattle.reconstruct.specs.StatesStayReady.{groups-stand}
+use Rattle.reconstruct.specs.CellsCleared.{Cleared}
+use Rattle.reconstruct.specs.CellsWritten.{Held, OpenFits, OpenPut, cells-written}
 use Rattle.reconstruct.specs.declared.Reconstructed.{Reconstructed}
 use Rattle.reconstruct.specs.declared.Reconstructed.the-variants.{Cells, Refused}
 use Rattle.roundtrip.specs.GivenHour.{valid-given}
 use Rattle.rules.specs.Calls.{reconstruction, leaves}
-use Rattle.rules.specs.Hour.{internalAt, numbers, Progress, groups, reconstructed, cellsOf, cellCount, answer}
+use Rattle.rules.specs.Hour.{internalAt, numbers, share, Progress, groups, reconstructed, cellsOf, cellCount, answer}
 use Rattle.rules.specs.Refusals.{Outcome, accepted, refused, andThen}
 use Rattle.rules.specs.Writing.{valid}
 use Rattle.rules.specs.declared.Hour.{Hour}
@@ -28,6 +33,9 @@ use Rattle.rules.specs.declared.Refusal.{Refusal}
 use Rattle.rules.specs.declared.Refusal.the-variants.{Short, NoDeck}
 use Rattle.sequence.specs.Placings.{Placeable, placings, placings-same}
 use Rattle.sequence.specs.SameGroups.{same-groups}
+use Rattle.turns.specs.GroupTurns.{Turned}
+use Rattle.turns.specs.GroupsOneByOne.{Reached}
+use Rattle.turns.specs.StatesStayReady.{groups-stand}
 
 -- what is answered, and what is left of the lent cells
 abbrev pub Answers : Hour → List ℤ → Reconstructed → List ℤ → Type 0
@@ -46,47 +54,91 @@ module _ (h : Hour) (out : List ℤ) where
   too-short v l = answers-refused Short (rw (v, lt-ltb (length out) (cellCount h) l))
 
 module _ (h : Hour) (v : valid h ≡ true) where
+  -- the pairs' cells
+  pub cells-few : h .ndeliveries * (h .nsources * 4) ≤ 4096
+  cells-few =
+      let w : h .nsources * 4 ≤ 128 = omega (arith, valid-given h v .sources .few) in
+      mul-le-mul (valid-given h v .deliveries .few) w
+
   pub count-few : cellCount h ≤ 4160
-  count-few = omega (arith, cells-few h v, valid-given h v .sources .few)
+  count-few = omega (arith, cells-few, valid-given h v .sources .few)
 
   pub placeable : Placeable (h .deliveries) (h .ndeliveries)
   placeable =
       let d = valid-given h v .deliveries in
       record { n-small = d .few; sequence = λ j l. d .entry j l .sequence .most; block = λ j l. omega (arith, d .entry j l .block .most) }
 
--- a whole run by the hour's numbers: what the groups came to, and the cells that they left
-pub record Ran (h : Hour) (r : Settled) (xs : List ℤ) : Type 0 where
+-- a whole run by the hour's numbers: what the groups came to, and the tables that they left
+pub record Ran (h : Hour) (ns : List InternalSequence) (r : Settled) (ms led direct moved : List ℕ) : Type 0 where
   pub valid : valid h ≡ true
-  pub ns : List InternalSequence
   pub placed : ns ≡ placings (h .deliveries) (h .ndeliveries)
-  pub turned : Turned h ns 0 r xs
+  pub turned : Turned h ns 0 r led direct moved
+  pub mwhs : MwhsOf h ms
 
-module _ (h : Hour) (r : Settled) (xs : List ℤ) (w : Ran h r xs) where
-  run-is : (size : ℕ) → cellCount h ≤ size → (o : Outcome Progress) → groups h (w .ns) 1000 ≡ o → reconstruction h size ≡ andThen o (λ p. accepted (cellsOf h p))
+module _ (h : Hour) (ns : List InternalSequence) (r : Settled) (ms led direct moved : List ℕ) (w : Ran h ns r ms led direct moved) where
+  same : (j : ℕ) → internalAt ns j ≡ internalAt (numbers h) j
+  same j = ap (λ (xs : List InternalSequence). internalAt xs j) (w .placed) ∙ placings-same h j
+
+  run-is : (size : ℕ) → cellCount h ≤ size → (o : Outcome Progress) → groups h ns 1000 ≡ o → reconstruction h size ≡ andThen o (λ p. accepted (cellsOf h p))
   unfolding reconstruction answer reconstructed
   run-is size l o f =
-      let same : (j : ℕ) → internalAt (w .ns) j ≡ internalAt (numbers h) j = λ j. ap (λ (ms : List InternalSequence). internalAt ms j) (w .placed) ∙ placings-same h j in
       rw (w .valid, le-ltb size (cellCount h) l)
-      (ap (λ (q : Outcome Progress). andThen q (λ p. accepted (cellsOf h p))) (sym (same-groups h (w .ns) (numbers h) same 1000) ∙ f))
+      (ap (λ (q : Outcome Progress). andThen q (λ p. accepted (cellsOf h p))) (sym (same-groups h ns (numbers h) same 1000) ∙ f))
 
   pub hour-refused : (out : List ℤ) (y : Refusal) → cellCount h ≤ length out → r .verdict ≡ verdict.Refused y → Answers h out (Refused y) out
   hour-refused out y l q = answers-refused h out y (run-is (length out) l (refused y) (w .turned .ended y q))
 
+  -- all groups are done: the pairs' cells are cleared, each member's are written, and the open cells after them
   module _ (q : r .verdict ≡ verdict.Done) where
-    reached : Reached h (w .ns) 0 (r .states) xs
+    abbrev pairs : ℕ
+    pairs = h .ndeliveries * (h .nsources * 4)
+
+    reached : Reached h ns 0 (r .states) led direct moved
     reached = w .turned .done q
 
-    pub open-fits : OpenFits (r .states) (h .ndeliveries * (h .nsources * 4)) (h .nsources) xs
-    open-fits = record {
-      ready = rw (reached .states) (groups-stand h (w .ns) (w .valid) 1000 (omega arith) (reached .progress) (reached .run) .ready);
-      long = w .turned .long;
-      room = count-few h (w .valid);
-    }
+    small : DeliveriesSmall h
+    small = let g = valid-given h (w .valid) .deliveries in record { few = g .few; mwh = λ j l. g .entry j l .mwh .most }
 
-    pub hour-done : (out ys left : List ℤ) → cellCount h ≤ length out → OpenPut (r .states) (h .ndeliveries * (h .nsources * 4)) (h .nsources) xs ys →
-        left ≡ take (cellCount h) ys ++ drop (cellCount h) out → Answers h out (Cells (cellCount h)) left
-    hour-done out ys left l put f =
-        let p = reached .progress in
-        let enough : cellCount h ≤ length ys = omega (arith, count-few h (w .valid), put .long, w .turned .long) in
-        let cells : take (cellCount h) ys ≡ cellsOf h p = cells-written h p xs ys (reached .held) (rw (reached .states) at put) enough in
-        rw (run-is (length out) l (accepted p) (reached .run), cells-length h p) (refl, f ∙ ap (λ (x : List ℤ). x ++ drop (cellCount h) out) cells)
+    module _ (out xs : List ℤ) (l : cellCount h ≤ length out) (c : Cleared pairs out xs) where
+      pub shares-fit : AllGiven (h .nsources) (h .ndeliveries) ms ns led direct moved xs
+      shares-fit =
+          all-given h ms (w .mwhs) small ns led direct moved xs (valid-given h (w .valid) .sources .few) (omega (arith, c .long)) (c .zero) (reached .kept .leads)
+
+      module _ (ys : List ℤ) (s : AllShared (h .nsources) (h .ndeliveries) ms ns led direct moved xs ys) where
+        pub open-fits : OpenFits (r .states) pairs (h .nsources) ys
+        open-fits = record {
+          ready = rw (reached .states) (groups-stand h ns (w .valid) 1000 (omega arith) (reached .progress) (reached .run) .ready);
+          low = cells-few h (w .valid);
+          room = omega (arith, c .long, s .long);
+        }
+
+        -- each delivery's group is done, and its lead's row told what its cells are shares of
+        held : Held h ys (reached .progress .cells)
+        held = record {
+          at = λ j i item a b.
+              let o = reached .kept .owed j a (omega arith) (omega (arith, same j, every-group-is-done h (w .valid) j)) in
+              let e : internalAt ns (o .lead) ≡ internalAt ns j = eqb-true (internalAt ns (o .lead)) (internalAt ns j) (o .leads .number) in
+              let t = told (getD direct (o .lead * 32 + i) 0) (getD moved (o .lead * 32 + i) 0) item in
+              all-shared h ms (w .mwhs) small ns led direct moved xs ys s (o .lead) j i item (o .leads .within) (o .marked) a
+              (eq-eqb (internalAt ns j) (internalAt ns (o .lead)) (sym e)) b ∙
+              ap (λ (x : ℕ). share h ns x t j) e ∙ sym (o .cell i item b);
+        }
+
+        module _ (left : List ℤ) (put : OpenPut (r .states) pairs (h .nsources) ys left) where
+          as-long : length left ≡ length out
+          as-long = put .long ∙ s .long ∙ c .long
+
+          beyond : (m : ℕ) → cellCount h ≤ m → cellAt left m ≡ cellAt out m
+          beyond m b = put .beyond m b ∙ s .beyond m (omega arith) ∙ c .beyond m (omega arith)
+
+          rest-stays : drop (cellCount h) left ≡ drop (cellCount h) out
+          rest-stays =
+              ext-getD (pos 0) (drop (cellCount h) left) (drop (cellCount h) out) (omega (arith, length-drop (cellCount h) left, length-drop (cellCount h) out, as-long))
+              (λ k b. getD-drop (cellCount h) left k (pos 0) ∙ beyond (cellCount h + k) (omega arith) ∙ sym (getD-drop (cellCount h) out k (pos 0)))
+
+          pub hour-done : Answers h out (Cells (cellCount h)) left
+          hour-done =
+              let p = reached .progress in
+              let cells : take (cellCount h) left ≡ cellsOf h p = cells-written h p ys left held (rw (reached .states) at put) (omega (arith, as-long)) in
+              rw (run-is (length out) l (accepted p) (reached .run), cells-length h p)
+              (refl, sym (take-append-drop (cellCount h) left) ∙ ap (λ (x : List ℤ). x ++ drop (cellCount h) left) cells ∙ ap (λ (x : List ℤ). cellsOf h p ++ x) rest-stays)

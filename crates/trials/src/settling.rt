@@ -15,13 +15,13 @@ use rules::Source;
 fn open_all(sources: [Source; 32]) -> [Running; 32]
     ensures { λ r. ⌜ r ≡ map (λ s. opened (s .plant)) sources ⌝ }
 {
-    let blank = reconstruct::open(Plant::Fixed { g: 0 });
+    let blank = turns::open(Plant::Fixed { g: 0 });
     let mut states = [blank; 32];
     let mut i = 0;
     while i < 32 {
         let s = sources[i];
         let p = s.plant;
-        states[i] = reconstruct::open(p);
+        states[i] = turns::open(p);
         i += 1;
     }
     states

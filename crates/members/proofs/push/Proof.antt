@@ -1,29 +1,33 @@
--- `members::push` meets its contract: the place is written, and counted where its size is not 0.
-use native.Mathlib.Omega.{arith}
+-- `members::push` meets its contract: the place and its amount are written, and counted where its size is not 0.
+use mathlib.Core.Path.{sym, _∙_}
+use borrow.Author.Needs.{needs}
 use Rattle.members.specs.Live.{listed-skip, listed-more}
 use Rattle.members.proofs.push.Statement.{statement}
 use Rattle.members.proofs.push.Tie as tie
 
 mul-live : tie.Need-mul-live
-mul-live c = omega (arith, c .pre .0, c .pre .1 .few)
+mul-live c = search needs
 
 element-write-live : tie.Need-element-write-live
-element-write-live c = omega (arith, c .pre .0, c .pre .1 .few)
+element-write-live c = search needs
 
-mul-if1 : tie.Need-mul-if1
-mul-if1 c = omega (arith, c .pre .0)
+mul-sizes : tie.Need-mul-sizes
+mul-sizes c = search needs
 
-element-copy-out-if1 : tie.Need-element-copy-out-if1
-element-copy-out-if1 c = c .pre .0
+element-write-sizes : tie.Need-element-write-sizes
+element-write-sizes c = search needs
+
+element-write-minus : tie.Need-element-write-minus
+element-write-minus c = search needs
 
 add-result : tie.Need-add-result
-add-result c = let p = c .before .before .pre in omega (arith, p .0, p .1 .few)
+add-result c = search needs
 
 returns : tie.Need-returns
-returns c = let p = c .before .before .pre in listed-more _ _ _ _ (p .0) (p .1)
+returns c = λ a l e f. listed-more a _ _ _ _ _ (c .before .pre .0) l _ _ e f
 
 returns-2 : tie.Need-returns-2
-returns-2 c = let p = c .before .before .pre in listed-skip _ _ _ _ (p .0) (p .1) (c .if1 .left)
+returns-2 c = λ a l e f. listed-skip a _ _ _ _ _ (c .before .pre .0) l _ _ (sym e ∙ c .if1 .left)
 
 pub push-spec : {M : Type 1} → statement M
 push-spec =
@@ -31,8 +35,9 @@ push-spec =
     (tie.spec
     mul-live
     element-write-live
-    mul-if1
-    element-copy-out-if1
+    mul-sizes
+    element-write-sizes
+    element-write-minus
     add-result
     returns
     returns-2)

@@ -46,7 +46,7 @@ mul-cells : tie.Need-mul-cells Inv-loop μ-loop
 mul-cells c = let f = c .before .before .before .before .before .before .pre in omega (arith, f .room)
 
 slice-set-from-cells : tie.Need-slice-set-from-cells Inv-loop μ-loop
-slice-set-from-cells c = let f = c .before .before .before .before .before .before .pre in omega (arith, f .room, f .long, c .before .before .before .before .before .loop .inv .1 .long)
+slice-set-from-cells c = let f = c .before .before .before .before .before .before .pre in omega (arith, f .room, c .before .before .before .before .before .loop .inv .1 .long)
 
 cell-requires-2 : tie.Need-cell-requires-2 Inv-loop μ-loop
 cell-requires-2 c κs = rw (c .before .before .open-cost .ensures) (open-cost-small _ (c .before .before .before .before .before .before .pre .ready .ready (c .before .before .before .before .before .loop .i)))
@@ -58,7 +58,7 @@ mul-t18 : tie.Need-mul-t18 Inv-loop μ-loop
 mul-t18 c = let f = c .before .before .before .before .before .before .before .pre in omega (arith, f .room)
 
 slice-set-from-cells-2 : tie.Need-slice-set-from-cells-2 Inv-loop μ-loop
-slice-set-from-cells-2 c = let f = c .before .before .before .before .before .before .before .pre in rw length-set (omega (arith, f .room, f .long, c .before .before .before .before .before .before .loop .inv .1 .long))
+slice-set-from-cells-2 c = let f = c .before .before .before .before .before .before .before .pre in rw length-set (omega (arith, f .room, c .before .before .before .before .before .before .loop .inv .1 .long))
 
 add-i : tie.Need-add-i Inv-loop μ-loop
 add-i c = search needs
@@ -72,7 +72,7 @@ loop-again c =
     let f = a .before .pre in
     let v : toZ w64 (ofZ w64 (c .before .cell .result)) ≡ c .before .cell .result = search needs in
     let g : toZ w64 (ofZ w64 (c .cell2 .result)) ≡ c .cell2 .result = search needs in
-    (omega arith, open-more _ _ _ _ _ _ _ (omega (arith, f .room, f .long)) (a .loop .inv .1) (v ∙ c .before .cell .ensures) (g ∙ c .cell2 .ensures ∙ ap pos (c .before .before .before .open-cost .ensures)))
+    (omega arith, open-more _ _ _ _ _ _ _ (omega (arith, f .room)) (a .loop .inv .1) (v ∙ c .before .cell .ensures) (g ∙ c .cell2 .ensures ∙ ap pos (c .before .before .before .open-cost .ensures)))
 
 same-length : tie.Need-same-length Inv-loop μ-loop
 same-length c = c .before .loop .inv .1 .long

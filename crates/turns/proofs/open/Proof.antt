@@ -1,7 +1,7 @@
 -- `reconstruct::open` meets its contract: v is the generation.
 use borrow.Author.Needs.{needs}
-use Rattle.reconstruct.proofs.open.Statement.{statement}
-use Rattle.reconstruct.proofs.open.Tie as tie
+use Rattle.turns.proofs.open.Statement.{statement}
+use Rattle.turns.proofs.open.Tie as tie
 
 generation-of-requires : tie.Need-generation-of-requires
 generation-of-requires c κs = search needs

@@ -12,9 +12,9 @@ use Rattle.laws.specs.Choices.{refused-not-accepted, accepted-same}
 use Rattle.merit.specs.LevelNeverBelowB.{stateAt, Took}
 use Rattle.merit.specs.PlainMoves.{plain-length}
 use Rattle.merit.specs.RemainderMoves.{Unloaded, rung, bottom, noRoom, unload-is, Credited, raising, noHeadroom, credit-is}
-use Rattle.reconstruct.specs.LinesTaken.{LinesFit}
+use Rattle.turns.specs.LinesTaken.{LinesFit}
 use Rattle.roundtrip.specs.GivenHour.{GivenHour, valid-given}
-use Rattle.rules.specs.Group.{opened, room, emergency, lowered, plain, unloading, lastStep, crediting, toEmergency, unload, credit, remainder}
+use Rattle.rules.specs.Group.{opened, room, emergency, lowered, unloading, lastStep, crediting, toEmergency, unload, credit, remainder}
 use Rattle.rules.specs.Hour.{member, Progress, groups}
 use Rattle.rules.specs.Record.{noSource}
 use Rattle.rules.specs.Refusals.{Outcome, accepted}

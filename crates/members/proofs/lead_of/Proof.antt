@@ -1,0 +1,63 @@
+-- `members::lead_of` meets its contract: none of the deliveries passed is a member, and not all are passed.
+use mathlib.Core.Bool.{false}
+use mathlib.Core.Path.{_≡_}
+use Prim.Native.Nat.{ℕ, _-_, _≤_, _<_}
+use native.Mathlib.Omega.{arith}
+use borrow.Author.Tests.{eq-eqb, ne-eqb}
+use Rattle.laws.specs.Sums.{below-suc}
+use Rattle.members.specs.Leads.{lead-none}
+use Rattle.rules.specs.Hour.{member}
+use Rattle.members.proofs.lead_of.Statement.{statement}
+use Rattle.members.proofs.lead_of.Tie as tie
+
+abbrev Inv-loop : tie.InvT-loop
+Inv-loop n number numbers j₀ j = (j ≤ n) × ((k : ℕ) → k < j → member numbers number k ≡ false)
+
+abbrev μ-loop : tie.MeasureT-loop
+μ-loop n number numbers j₀ j = n - j
+
+loop-holds : tie.Need-loop-holds Inv-loop μ-loop
+loop-holds c = (omega arith, λ k l. absurd (omega arith))
+
+mul-x : tie.Need-mul-x Inv-loop μ-loop
+mul-x c = omega arith
+
+array-copy-out-x : tie.Need-array-copy-out-x Inv-loop μ-loop
+array-copy-out-x c = omega arith
+
+returns : tie.Need-returns Inv-loop μ-loop
+returns c = record { within = omega arith; number = eq-eqb _ _ (c .if1 .taken); first = c .before .before .before .before .loop .inv .1 }
+
+add-j : tie.Need-add-j Inv-loop μ-loop
+add-j c = omega arith
+
+loop-less : tie.Need-loop-less Inv-loop μ-loop
+loop-less c = omega arith
+
+loop-again : tie.Need-loop-again Inv-loop μ-loop
+loop-again c =
+    let l = c .before .before .before .before .loop in (
+      omega arith,
+      λ k m. below-suc (λ k. member (c .before .before .before .before .before .args .t1) (c .before .before .before .before .before .args .number) k ≡ false) (l .j)
+          (l .inv .1) (ne-eqb _ _ (c .if1 .left)) k (omega arith),
+    )
+
+returns-2 : tie.Need-returns-2 Inv-loop μ-loop
+returns-2 c =
+    let a = c .before .before .args in
+    absurd (omega (arith, c .before .before .pre .1, lead-none (a .t1) (a .n) (a .number) (λ k l. c .before .loop .inv .1 k (omega arith))))
+
+pub lead-of-spec : {M : Type 1} → statement M
+lead-of-spec =
+    tie.close
+    (tie.spec
+    Inv-loop
+    μ-loop
+    loop-holds
+    mul-x
+    array-copy-out-x
+    returns
+    add-j
+    loop-less
+    loop-again
+    returns-2)
