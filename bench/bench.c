@@ -15,7 +15,7 @@
 uint64_t trial_price(const uint8_t *deck, size_t n, int64_t *out, size_t room, size_t times);
 uint64_t trial_plain(const uint8_t *deck, size_t n, int64_t *out, size_t room, size_t times);
 
-enum { DECK = 8192, TURNS = 101, MOST_WORKS = 32, CALLS = 8 };
+enum { DECK = 8192, TURNS = 101, MOST_WORKS = 8, CALLS = 8 };
 
 static uint8_t deck[DECK];
 static size_t size;
@@ -127,25 +127,26 @@ static void hold_cells(void) {
     }
 }
 
-static void row(const char *name, double proved, double plain_c, double quick_c) {
-    printf("| %s | %.0f ", name, proved);
-    if (plain_c > 0)
-        printf("| %.0f | %.2f ", plain_c, proved / plain_c);
+/* One row: its works in turn, by themselves. Where the proved work is of CALLS + 1 hours, `one` is of one. */
+static void row(const char *name, work *proved, work *one, work *plain_c, work *quick_c) {
+    work *w[4];
+    double t[4];
+    int n = 0;
+    w[n++] = proved;
+    if (one) w[n++] = one;
+    if (plain_c) w[n++] = plain_c;
+    w[n++] = quick_c;
+    in_turn(n, w, t);
+    double ours = one ? (t[0] - t[1]) / CALLS : t[0];
+    printf("| %s | %.0f ", name, ours);
+    if (plain_c)
+        printf("| %.0f | %.2f ", t[n - 2], ours / t[n - 2]);
     else
         printf("| | ");
-    printf("| %.0f | %.2f |\n", quick_c, proved / quick_c);
+    printf("| %.0f | %.2f |\n", t[n - 1], ours / t[n - 1]);
 }
 
 static void table(const char *name) {
-    static work *const w[] = {
-        proved_read,   plain_c_read,     quick_c_read,
-        proved_price,  plain_c_price,    quick_c_price,
-        proved_plain,  plain_c_plain,    quick_c_plain,
-        proved_prices, proved_one_price, plain_c_record_price, quick_c_record_price,
-        proved_plains, proved_one_plain, plain_c_record_plain, quick_c_record_plain,
-        proved_report, quick_c_report,
-    };
-    double t[sizeof w / sizeof *w], *read = t, *price = t + 3, *plain = t + 6, *record_price = t + 9, *record_plain = t + 13, *printed = t + 17;
     FILE *f = fopen(name, "rb");
     if (!f) {
         perror(name);
@@ -154,14 +155,13 @@ static void table(const char *name) {
     size = fread(deck, 1, DECK, f);
     fclose(f);
     hold_cells();
-    in_turn(sizeof w / sizeof *w, w, t);
     printf("\n%s, %zu bytes:\n\n| work | proved, ns | plain C, ns | ratio | C for speed, ns | ratio |\n|---|---|---|---|---|---|\n", name, size);
-    row("reading", read[0], read[1], read[2]);
-    row("deck to cells, by price", price[0], price[1], price[2]);
-    row("deck to cells, one MWh at a time", plain[0], plain[1], plain[2]);
-    row("record to cells, by price", (record_price[0] - record_price[1]) / CALLS, record_price[2], record_price[3]);
-    row("record to cells, one MWh at a time", (record_plain[0] - record_plain[1]) / CALLS, record_plain[2], record_plain[3]);
-    row("deck to report", printed[0], 0, printed[1]);
+    row("reading", proved_read, 0, plain_c_read, quick_c_read);
+    row("deck to cells, by price", proved_price, 0, plain_c_price, quick_c_price);
+    row("deck to cells, one MWh at a time", proved_plain, 0, plain_c_plain, quick_c_plain);
+    row("record to cells, by price", proved_prices, proved_one_price, plain_c_record_price, quick_c_record_price);
+    row("record to cells, one MWh at a time", proved_plains, proved_one_plain, plain_c_record_plain, quick_c_record_plain);
+    row("deck to report", proved_report, 0, 0, quick_c_report);
 }
 
 /* An hour of so many like units, one delivery of so many MWh in each of so many groups. */
