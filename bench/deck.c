@@ -172,8 +172,7 @@ static unsigned direct_line(struct cursor *c, struct hour *h) {
     return 0;
 }
 
-/* After E: 10 and 11. */
-static struct refusal finished(const struct hour *h) {
+struct refusal finished(const struct hour *h) {
     uint32_t generation = 0, drawn = h->losses;
     bool placed = false;
     size_t unplaced = 32;

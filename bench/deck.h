@@ -48,4 +48,7 @@ struct refusal read_deck(const uint8_t *s, size_t n, struct hour *h);
 /* The same, plainly written. */
 struct refusal read_plainly(const uint8_t *s, size_t n, struct hour *h);
 
+/* What both ask after E: 10 and 11. */
+struct refusal finished(const struct hour *h);
+
 #endif

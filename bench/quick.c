@@ -198,27 +198,6 @@ static unsigned direct_line(struct reader *c, struct hour *h) {
     return 0;
 }
 
-/* After E: 10 and 11. */
-static struct refusal finished(const struct hour *h) {
-    uint32_t generation = 0, drawn = h->losses;
-    bool placed = false;
-    size_t unplaced = 32;
-    for (size_t i = 0; i < h->sources; i++)
-        generation += h->source[i].g;
-    for (size_t j = 0; j < h->deliveries; j++) {
-        drawn += h->delivery[j].mwh;
-        if (h->delivery[j].sequence)
-            placed = true;
-        else if (unplaced == 32)
-            unplaced = j;
-    }
-    if (drawn > generation)
-        return (struct refusal){10, 0};
-    if (unplaced != 32 && !placed)
-        return (struct refusal){11, (uint32_t)(h->sources + 2 + unplaced)};
-    return (struct refusal){0, 0};
-}
-
 struct refusal read_deck(const uint8_t *s, size_t n, struct hour *h) {
     struct reader c;
     if (n > 8192)
