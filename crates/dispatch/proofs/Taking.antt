@@ -35,7 +35,7 @@ module _ (up : Bool) (one step cap : List ℕ) (n : ℕ) where
   taken-all total x t l m a = let e : x ≡ total = omega arith in rw e at a
 
   -- while less than the total is taken, a source has room
-  pub choice-there : (total x i : ℕ) (t : List ℕ) → Taken up one step cap n x t → x < total → total ≤ sumTo (at cap) n → Choice up one step cap t n i → i < n
+  pub choice-there : {b : Bool} (total x i : ℕ) (t : List ℕ) → Taken up one step cap n x t → x < total → total ≤ sumTo (at cap) n → Choice b one step cap t n i → i < n
   choice-there total x i t a l h d = elim (decLt i n) [
     | yes m ↦ m
     | no m ↦ absurd (omega (arith, sumTo-most n (at cap) (at t) (d .none (omega (arith, d .within))), a .adds))
