@@ -66,7 +66,7 @@ movedSet moved at t u = set moved at (packed (less (level t) (level u)) (less (c
 -- no row but the lead's is touched; a row has 32 places
 pub record Elsewhere (lead : ℕ) (xs ys : List ℕ) : Type 0 where
   pub long : length ys ≡ length xs
-  pub kept : (j i : ℕ) → (j ≡ lead → ⊥) → i < 32 → getD ys (j * 32 + i) 0 ≡ getD xs (j * 32 + i) 0
+  pub kept : (j i : ℕ) → j ≢ lead → i < 32 → getD ys (j * 32 + i) 0 ≡ getD xs (j * 32 + i) 0
 
 pub elsewhere-none : (lead : ℕ) (xs : List ℕ) → Elsewhere lead xs xs
 elsewhere-none lead xs = record { long = refl; kept = λ j i f l. refl }

@@ -35,6 +35,7 @@ use Rattle.sequence.specs.Placings.{Placeable, placings, placings-same}
 use Rattle.sequence.specs.SameGroups.{same-groups}
 use Rattle.turns.specs.GroupTurns.{Turned}
 use Rattle.turns.specs.GroupsOneByOne.{Reached}
+use Rattle.turns.specs.MwhsListed.{deliveries-small}
 use Rattle.turns.specs.StatesStayReady.{groups-stand}
 
 -- what is answered, and what is left of the lent cells
@@ -97,7 +98,7 @@ module _ (h : Hour) (ns : List InternalSequence) (r : Settled) (ms led direct mo
     reached = w .turned .done q
 
     small : DeliveriesSmall h
-    small = let g = valid-given h (w .valid) .deliveries in record { few = g .few; mwh = λ j l. g .entry j l .mwh .most }
+    small = deliveries-small h (w .valid)
 
     module _ (out xs : List ℤ) (l : cellCount h ≤ length out) (c : Cleared pairs out xs) where
       pub shares-fit : AllGiven (h .nsources) (h .ndeliveries) ms ns led direct moved xs

@@ -15,6 +15,7 @@ use Rattle.members.specs.Shared.{DeliveriesSmall}
 use Rattle.turns.specs.AmountsKept.{row-blank, row-within, kept-turn}
 use Rattle.turns.specs.GroupsOneByOne.{leftAfter, directedTo, Reached, reached-start, reached-pass, reached-turn, reached-refused}
 use Rattle.turns.specs.LinesTaken.{LinesFit}
+use Rattle.turns.specs.MwhsListed.{deliveries-small}
 use Rattle.turns.specs.StatesStayReady.{Standing, groups-stand, lines-took, lines-ready, lines-fit}
 use Rattle.roundtrip.specs.GivenHour.{valid-given}
 use Rattle.rules.specs.Group.{opened, remainder}
@@ -89,7 +90,7 @@ module _ (h : Hour) (ns : List InternalSequence) where
     turn-ready ts e = rw (e, f .reached .states) (lines-ready h ns x (f .reached .progress) stands)
 
     pub turn-deliveries : DeliveriesSmall h
-    turn-deliveries = let g = valid-given h (f .valid) .deliveries in record { few = g .few; mwh = λ j l. g .entry j l .mwh .most }
+    turn-deliveries = deliveries-small h (f .valid)
 
     sources-few : h .nsources ≤ 32
     sources-few = valid-given h (f .valid) .sources .few

@@ -1,4 +1,5 @@
 -- The deliveries' MWh, delivery by delivery.
+use mathlib.Core.Bool.{true}
 use mathlib.Core.List.{List}
 use mathlib.Core.Path.{_≡_, _∙_}
 use Prim.Native.Nat.{ℕ, _+_, _≤_, _<_}
@@ -8,7 +9,10 @@ use lib.ListN.{length, getD, set, length-set}
 use lib.Seq.{getD-set-same, getD-set-other}
 use Rattle.laws.specs.Sums.{below-suc}
 use Rattle.members.specs.Members.{MwhsOf}
+use Rattle.members.specs.Shared.{DeliveriesSmall}
+use Rattle.roundtrip.specs.GivenHour.{valid-given}
 use Rattle.rules.specs.Sequences.{noDelivery}
+use Rattle.rules.specs.Writing.{valid}
 use Rattle.rules.specs.declared.Delivery.{Delivery}
 use Rattle.rules.specs.declared.Hour.{Hour}
 
@@ -35,3 +39,7 @@ module _ (ts : List Delivery) (ms : List ℕ) where
 
 pub hour-mwhs : (h : Hour) (ms : List ℕ) → Mwhs (h .deliveries) (h .ndeliveries) ms → MwhsOf h ms
 hour-mwhs h ms m = record { long = m .long; mwh = m .mwh }
+
+-- those of a valid hour are small
+pub deliveries-small : (h : Hour) → valid h ≡ true → DeliveriesSmall h
+deliveries-small h v = let g = valid-given h v .deliveries in record { few = g .few; mwh = λ j l. g .entry j l .mwh .most }
