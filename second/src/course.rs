@@ -3,7 +3,7 @@
 use crate::faults::Fault;
 use crate::group::{turn, Turn};
 use crate::hour::*;
-use crate::sequence::{groups, place, Placed};
+use crate::sequence::{groups, place, Group, Placed};
 use crate::units::{cost, Rung, State};
 
 /// All turns up to the end or to the first group refused.
@@ -30,13 +30,14 @@ pub fn course(hour: &Hour, fault: Fault) -> Course<'_> {
     let placed = place(hour, fault);
     let internal: Vec<i64> = placed.iter().map(|&(internal, _)| internal).collect();
     let groups = groups(hour, &internal, fault);
+    let directs = directs(hour, &groups, fault);
     let count = groups.len();
     let mut states: Vec<State> = hour.sources.iter().map(|s| State::new(s, fault)).collect();
     let mut turns: Vec<Turn> = Vec::new();
     let mut refused = None;
     let mut start = Rung::Normal;
     for group in groups {
-        let turn = turn(hour, group, states, start, fault);
+        let turn = turn(&directs, group, states, start, fault);
         states = turn.after.clone();
         if let (Some(rung), Fault::LoweredFloorsKept) = (turn.rung, fault) {
             start = rung;
@@ -59,6 +60,17 @@ pub fn course(hour: &Hour, fault: Fault) -> Course<'_> {
         refused,
         last: states,
     }
+}
+
+/// The D lines as the groups find them.
+fn directs(hour: &Hour, groups: &[Group], fault: Fault) -> Vec<Direct> {
+    let mut directs = hour.directs.clone();
+    if let (Some(first), Fault::DirectsInFirstGroup) = (groups.first(), fault) {
+        for direct in &mut directs {
+            direct.delivery = first.members[0];
+        }
+    }
+    directs
 }
 
 pub fn answer(hour: &Hour, fault: Fault) -> Result<Answer, Refusal> {

@@ -97,7 +97,7 @@ pub fn survey(deck: &[u8], fault: Fault) -> Survey {
 
 impl Reader {
     fn read_line(&mut self, bytes: &[u8]) -> Met {
-        if self.fault == Fault::TailIgnored && self.reached == rank(b'E') {
+        if self.reached == rank(b'E') && self.ignores_tail(bytes) {
             return Met::default();
         }
         let ended = bytes.strip_suffix(b"\n");
@@ -118,10 +118,18 @@ impl Reader {
         }
     }
 
+    fn ignores_tail(&self, bytes: &[u8]) -> bool {
+        match self.fault {
+            Fault::TailIgnored => true,
+            Fault::LastByteIgnored => bytes.len() == 1,
+            _ => false,
+        }
+    }
+
     fn judge(&self, line: &Line) -> Met {
         let mut met = Met::default();
         met.note(2, !self.in_order(line.letter));
-        met.note(3, !lines::ranges_hold(line));
+        met.note(3, !lines::ranges_hold(line, self.fault));
         match rank(line.letter) {
             2 => self.judge_source(line, &mut met),
             3 => self.judge_delivery(line, &mut met),
@@ -143,31 +151,39 @@ impl Reader {
     fn judge_source(&self, line: &Line, met: &mut Met) {
         let label = line.label(line.fields.len() - 1);
         let (own, other) = (self.source(label), self.delivery(label));
-        self.judge_entry(met, self.hour.sources.len(), own, other);
+        self.judge_count(met, self.hour.sources.len(), Fault::SourceTaken);
+        self.judge_label(met, own, other);
         if line.letter == b'U' {
             let falling = [1, 0, 2, 3, 4, 5].map(|place| line.number(place));
             let strict = self.fault == Fault::LevelsStrict;
             let fits = |pair: &[i64]| pair[0] > pair[1] || (pair[0] == pair[1] && !strict);
-            met.note(6, !falling.windows(2).all(fits));
+            let flat = self.fault == Fault::NormalBelowGeneration && falling[1] == falling[2];
+            met.note(6, flat || !falling.windows(2).all(fits));
         }
     }
 
     fn judge_delivery(&self, line: &Line, met: &mut Met) {
         let (own, other) = (self.delivery(line.label(4)), self.source(line.label(4)));
-        self.judge_entry(met, self.hour.deliveries.len(), own, other);
+        self.judge_count(met, self.hour.deliveries.len(), Fault::DeliveryTaken);
+        self.judge_label(met, own, other);
     }
 
-    /// Count and label of a line's class; the label may stand in the other one.
-    fn judge_entry(&self, met: &mut Met, count: usize, own: Option<usize>, other: Option<usize>) {
+    /// The count of a line's class; one more is taken under the fault named.
+    fn judge_count(&self, met: &mut Met, count: usize, one_more: Fault) {
+        let most = MOST_OF_A_CLASS + usize::from(self.fault == one_more);
+        met.note(4, count >= most);
+    }
+
+    /// A label of a class, which may stand in the other one.
+    fn judge_label(&self, met: &mut Met, own: Option<usize>, other: Option<usize>) {
         let both = self.fault == Fault::LabelsOneClass;
-        met.note(4, count >= MOST_OF_A_CLASS);
         met.note(5, own.is_some() || (both && other.is_some()));
     }
 
     fn judge_direct(&self, line: &Line, met: &mut Met) {
         let unit = self.unit(line.label(2));
         let delivery = self.delivery(line.label(3));
-        met.note(4, self.hour.directs.len() >= MOST_OF_A_CLASS);
+        self.judge_count(met, self.hour.directs.len(), Fault::DirectTaken);
         met.note(7, unit.is_none() || delivery.is_none());
         let Some((place, unit)) = unit else { return };
         let basis = basis(line);
@@ -193,7 +209,11 @@ impl Reader {
             Fault::PercentOfLastTwo => earlier.next_back().map_or(0, |direct| direct.percent),
             _ => earlier.map(|direct| direct.percent).sum(),
         };
-        let most = 100 - i64::from(self.fault == Fault::PercentBelowHundred);
+        let most = match self.fault {
+            Fault::PercentBelowHundred => 99,
+            Fault::PercentsPastHundred => 101,
+            _ => 100,
+        };
         met.note(9, before + line.number(1) > most);
     }
 

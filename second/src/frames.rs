@@ -3,7 +3,7 @@
 use crate::hour::MOST_BYTES;
 use std::io::{self, BufRead, Read, Write};
 
-pub enum Frame {
+enum Frame {
     Deck(Vec<u8>),
     Broken,
     End,
@@ -13,7 +13,7 @@ pub enum Frame {
 const LONGEST_LINE: u64 = 32;
 
 /// The next frame. Of a deck too long to be read only its start is kept.
-pub fn next(input: &mut impl BufRead) -> io::Result<Frame> {
+fn next(input: &mut impl BufRead) -> io::Result<Frame> {
     let mut line = Vec::new();
     input.take(LONGEST_LINE).read_until(b'\n', &mut line)?;
     if line.is_empty() {
@@ -46,6 +46,37 @@ pub fn put(output: &mut impl Write, name: &str, bytes: &[u8]) -> io::Result<()> 
     output.write_all(bytes)
 }
 
+/// Hands on every deck; gives the number of the broken frame that ended the
+/// run, if one did.
+fn each(
+    input: &mut impl BufRead,
+    mut take: impl FnMut(Vec<u8>) -> io::Result<()>,
+) -> io::Result<Option<u64>> {
+    let mut number = 0;
+    loop {
+        number += 1;
+        match next(input)? {
+            Frame::Deck(deck) => take(deck)?,
+            Frame::Broken => return Ok(Some(number)),
+            Frame::End => return Ok(None),
+        }
+    }
+}
+
+/// All decks; without them the line that says why there are none.
+pub fn decks(input: &mut impl BufRead) -> io::Result<Result<Vec<Vec<u8>>, String>> {
+    let mut decks = Vec::new();
+    let broken = each(input, |deck| {
+        decks.push(deck);
+        Ok(())
+    })?;
+    Ok(match broken {
+        Some(number) => Err(format!("frame {number}")),
+        None if decks.is_empty() => Err("no frames".to_string()),
+        None => Ok(decks),
+    })
+}
+
 /// Answers every frame; false where a broken one ended the run.
 pub fn answer_all(
     input: &mut impl BufRead,
@@ -53,16 +84,9 @@ pub fn answer_all(
     name: &str,
     answer: fn(&[u8]) -> Vec<u8>,
 ) -> io::Result<bool> {
-    let mut number = 0;
-    loop {
-        number += 1;
-        match next(input)? {
-            Frame::Deck(deck) => put(output, name, &answer(&deck))?,
-            Frame::Broken => {
-                writeln!(output, "frame {number}")?;
-                return Ok(false);
-            }
-            Frame::End => return Ok(true),
-        }
+    let broken = each(input, |deck| put(output, name, &answer(&deck)))?;
+    if let Some(number) = broken {
+        writeln!(output, "frame {number}")?;
     }
+    Ok(broken.is_none())
 }

@@ -29,27 +29,28 @@ pub struct Turn<'a> {
 }
 
 pub fn turn<'a>(
-    hour: &Hour,
+    directs: &[Direct],
     group: Group,
     before: Vec<State<'a>>,
     start: Rung,
     fault: Fault,
 ) -> Turn<'a> {
     let mut opened = before.clone();
-    let taken = direct(hour, &group, &mut opened, fault);
+    let taken = direct(directs, &group, &mut opened, fault);
     let remainder = group.total - taken.iter().map(|taken| taken.mwh).sum::<i64>();
     let mut after = opened.clone();
     let mut rung = None;
     let mut refused = None;
+    let [no_room, no_headroom] = refusals(fault);
     if remainder > 0 {
         rung = choose_rung(&after, remainder, start, fault);
         match rung {
-            None => refused = Some(12),
+            None => refused = Some(no_room),
             Some(Rung::Last) => last_step(&mut after, remainder, fault),
             Some(rung) => lower_by_price(&mut after, rung, remainder, fault),
         }
     } else if remainder < 0 && !raise_by_price(&mut after, -remainder, fault) {
-        refused = Some(13);
+        refused = Some(no_headroom);
     }
     Turn {
         group,
@@ -63,10 +64,17 @@ pub fn turn<'a>(
     }
 }
 
-fn direct(hour: &Hour, group: &Group, states: &mut [State], fault: Fault) -> Vec<Taken> {
+/// The refusals for too little room and for too little headroom.
+fn refusals(fault: Fault) -> [u8; 2] {
+    match fault {
+        Fault::RefusalsExchanged => [13, 12],
+        _ => [12, 13],
+    }
+}
+
+fn direct(directs: &[Direct], group: &Group, states: &mut [State], fault: Fault) -> Vec<Taken> {
     let mut taken: Vec<Taken> = Vec::new();
-    let lines = hour
-        .directs
+    let lines = directs
         .iter()
         .filter(|line| group.members.contains(&line.delivery));
     for line in lines {

@@ -6,7 +6,11 @@ use crate::hour::Label;
 const LONGEST: usize = 16;
 
 fn is_character(byte: u8, fault: Fault) -> bool {
-    (32..=126).contains(&byte) || (byte == 127 && fault == Fault::DeleteIsCharacter)
+    match byte {
+        32 => fault != Fault::SpaceNoCharacter,
+        127 => fault == Fault::DeleteIsCharacter,
+        _ => (33..=126).contains(&byte),
+    }
 }
 
 /// Reads a label from its opening quote on; gives its characters and the rest
@@ -40,7 +44,11 @@ pub fn read(text: &[u8], fault: Fault) -> Option<(Label, &[u8])> {
 }
 
 fn is_escaped(byte: u8, fault: Fault) -> bool {
-    byte == b'"' || byte == b'\\' || (fault == Fault::AnyEscape && is_character(byte, fault))
+    match byte {
+        b'"' | b'\\' => true,
+        b'n' if fault == Fault::EscapedN => true,
+        _ => fault == Fault::AnyEscape && is_character(byte, fault),
+    }
 }
 
 pub fn same(one: &[u8], other: &[u8], fault: Fault) -> bool {

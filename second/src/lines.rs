@@ -4,7 +4,7 @@ use crate::faults::Fault;
 use crate::hour::Label;
 use crate::label;
 
-#[derive(Clone, Copy)]
+#[derive(Clone, Copy, PartialEq, Eq)]
 pub enum Shape {
     Number(i64, i64),
     Basis(i64, i64),
@@ -28,6 +28,7 @@ use Shape::{Basis, Number};
 
 const LEVEL: Shape = Number(1, 2000);
 const MWH: Shape = Number(0, 2000);
+const PERCENT: Shape = Number(1, 100);
 
 const H: &[Shape] = &[Number(0, 64_000)];
 const U: &[Shape] = &[
@@ -46,7 +47,7 @@ const U: &[Shape] = &[
 const P: &[Shape] = &[MWH, Number(0, 999_999), Shape::Label];
 const F: &[Shape] = &[MWH, Shape::Label];
 const T: &[Shape] = &[Number(0, 99), Number(1, 9), Number(1, 9), MWH, Shape::Label];
-const D: &[Shape] = &[Basis(1, 1999), Number(1, 100), Shape::Label, Shape::Label];
+const D: &[Shape] = &[Basis(1, 1999), PERCENT, Shape::Label, Shape::Label];
 
 pub fn shapes(letter: u8) -> Option<&'static [Shape]> {
     match letter {
@@ -98,7 +99,7 @@ pub fn form(bytes: &[u8], fault: Fault) -> Result<Line, u8> {
     for &shape in shapes {
         rest = rest.strip_prefix(b" ").ok_or(2)?;
         let (field, after) = read_field(rest, shape, fault).ok_or(2)?;
-        if fault == Fault::RangeBeforeForm && !in_range(&field, shape) {
+        if fault == Fault::RangeBeforeForm && !in_range(&field, shape, fault) {
             return Err(3);
         }
         fields.push(field);
@@ -144,8 +145,9 @@ fn read_number(text: &[u8], fault: Fault) -> Option<(i64, &[u8])> {
     Some((number, rest))
 }
 
-pub fn in_range(field: &Field, shape: Shape) -> bool {
+pub fn in_range(field: &Field, shape: Shape, fault: Fault) -> bool {
     match (field, shape) {
+        (Field::Number(101), PERCENT) if fault == Fault::PercentFieldPastHundred => true,
         (Field::Number(number), Number(least, most) | Basis(least, most)) => {
             (least..=most).contains(number)
         }
@@ -153,8 +155,8 @@ pub fn in_range(field: &Field, shape: Shape) -> bool {
     }
 }
 
-pub fn ranges_hold(line: &Line) -> bool {
+pub fn ranges_hold(line: &Line, fault: Fault) -> bool {
     let shapes = shapes(line.letter).unwrap_or(&[]);
     let mut pairs = line.fields.iter().zip(shapes);
-    pairs.all(|(field, &shape)| in_range(field, shape))
+    pairs.all(|(field, &shape)| in_range(field, shape, fault))
 }

@@ -2,6 +2,7 @@
 
 mod checks;
 mod course;
+mod cover;
 mod deck;
 mod draw;
 mod faults;
@@ -13,6 +14,7 @@ mod label;
 mod lines;
 mod report;
 mod sequence;
+mod shrink;
 mod situations;
 mod stats;
 mod telltale;
@@ -50,6 +52,18 @@ fn generate(seed: u64, count: u64) -> io::Result<bool> {
     Ok(true)
 }
 
+fn faults(all: bool) -> io::Result<bool> {
+    let mut output = io::BufWriter::new(io::stdout().lock());
+    let every = stats::faults(&mut io::stdin().lock(), &mut output, all)?;
+    output.flush()?;
+    Ok(every)
+}
+
+fn cover() -> io::Result<bool> {
+    let (mut output, mut beside) = (io::stdout().lock(), io::stderr().lock());
+    cover::cover(&mut io::stdin().lock(), &mut output, &mut beside)
+}
+
 /// The two numbers of `generate`, where both are numbers.
 fn with_numbers(
     seed: &str,
@@ -62,8 +76,9 @@ fn with_numbers(
     }
 }
 
-const USAGE: &str = "second report | batch | rewrite | cells | test\n\
-                     second generate [--stats] SEED COUNT\nsecond telltale FAULT";
+const USAGE: &str = "second report | batch | rewrite | cells | cover | test\n\
+                     second generate [--stats] SEED COUNT\nsecond telltale FAULT\n\
+                     second faults [--all]";
 
 fn run(words: &[&str]) -> io::Result<bool> {
     match words {
@@ -72,6 +87,9 @@ fn run(words: &[&str]) -> io::Result<bool> {
         ["rewrite"] => batch("rewritten", report::rewritten),
         ["cells"] => batch("cells", report::cells_text),
         ["test"] => checks::run(),
+        ["faults"] => faults(false),
+        ["faults", "--all"] => faults(true),
+        ["cover"] => cover(),
         ["telltale", name] => telltale::print(name),
         ["generate", "--stats", seed, count] => with_numbers(seed, count, stats::stats),
         ["generate", seed, count] => with_numbers(seed, count, generate),

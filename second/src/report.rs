@@ -1,6 +1,6 @@
 //! The texts the commands print for one deck.
 
-use crate::course::{answer, cells, Answer};
+use crate::course::{answer, cells, Answer, Pair};
 use crate::deck;
 use crate::faults::Fault;
 use crate::hour::*;
@@ -17,12 +17,12 @@ pub fn report(deck: &[u8], fault: Fault) -> Vec<u8> {
 /// The report of an hour that was read.
 pub fn of_hour(hour: &Hour, fault: Fault) -> Vec<u8> {
     match answer(hour, fault) {
-        Ok(answer) => printed(hour, &answer),
+        Ok(answer) => printed(hour, &answer, fault),
         Err(refusal) => refusal.text().into_bytes(),
     }
 }
 
-fn printed(hour: &Hour, answer: &Answer) -> Vec<u8> {
+fn printed(hour: &Hour, answer: &Answer, fault: Fault) -> Vec<u8> {
     let (generation, delivered) = (hour.generation(), hour.delivered());
     let internal = generation - hour.losses - delivered;
     let mut text =
@@ -31,10 +31,11 @@ fn printed(hour: &Hour, answer: &Answer) -> Vec<u8> {
         for (source, pair) in hour.sources.iter().zip(&answer.pairs[at]) {
             text.extend(label::written(&delivery.label));
             text.extend(format!(" {} ", answer.internal[at]).bytes());
-            text.extend(label::written(&source.label));
-            let [direct, incremental, direct_cost, incremental_cost] = pair;
-            let cost = direct_cost + incremental_cost;
-            text.extend(format!(" {direct} {incremental} {cost}\n").bytes());
+            text.extend(label::written(match fault {
+                Fault::DeliveryForSource => &delivery.label,
+                _ => &source.label,
+            }));
+            text.extend(amounts(*pair, fault).bytes());
         }
     }
     for (source, [mwh, cost]) in hour.sources.iter().zip(&answer.open) {
@@ -44,6 +45,15 @@ fn printed(hour: &Hour, answer: &Answer) -> Vec<u8> {
     }
     text.extend(b"end\n");
     text
+}
+
+fn amounts(pair: Pair, fault: Fault) -> String {
+    let [direct, incremental, direct_cost, incremental_cost] = pair;
+    let cost = direct_cost + incremental_cost;
+    match fault {
+        Fault::MwhExchanged => format!(" {incremental} {direct} {cost}\n"),
+        _ => format!(" {direct} {incremental} {cost}\n"),
+    }
 }
 
 pub fn rewritten(deck: &[u8]) -> Vec<u8> {

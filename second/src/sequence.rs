@@ -2,6 +2,7 @@
 
 use crate::faults::Fault;
 use crate::hour::*;
+use Blocks::{Any, AtLeast, Only};
 
 #[derive(Clone, Debug, PartialEq)]
 pub struct Group {
@@ -24,19 +25,43 @@ pub fn place(hour: &Hour, fault: Fault) -> Vec<(i64, Placed)> {
     for delivery in &hour.deliveries {
         placed.push(match delivery.sequence {
             0 => place_zero(hour, delivery, &placed, fault),
-            sequence => (10 * sequence, Placed::Given),
+            sequence => (internal(sequence, fault), Placed::Given),
         });
     }
     placed
+}
+
+fn internal(sequence: i64, fault: Fault) -> i64 {
+    match fault {
+        Fault::TensLeftOut => sequence,
+        _ => 10 * sequence,
+    }
 }
 
 /// One way to match: which deliveries, whether the greatest, and the step.
 struct Rule {
     name: char,
     sort: bool,
-    block: Option<i64>,
+    block: Blocks,
     greatest: bool,
     step: i64,
+}
+
+#[derive(Clone, Copy)]
+enum Blocks {
+    Any,
+    Only(i64),
+    AtLeast(i64),
+}
+
+impl Blocks {
+    fn have(self, block: i64) -> bool {
+        match self {
+            Blocks::Any => true,
+            Blocks::Only(only) => block == only,
+            Blocks::AtLeast(least) => block >= least,
+        }
+    }
 }
 
 fn rules(block: i64, fault: Fault) -> Vec<Rule> {
@@ -48,20 +73,22 @@ fn rules(block: i64, fault: Fault) -> Vec<Rule> {
         step,
     };
     let mut rules = vec![
-        rule('a', true, Some(block), fault == Fault::GreatestInA, -1),
-        rule('b', true, Some(block + 1), fault == Fault::GreatestInB, -1),
-        rule('c', true, Some(block - 1), fault != Fault::LeastInC, 1),
-        rule('d', true, None, fault == Fault::GreatestInD, -1),
-        rule('e', false, None, fault == Fault::GreatestInE, -1),
+        rule('a', true, Only(block), fault == Fault::GreatestInA, -1),
+        rule('b', true, Only(block + 1), fault == Fault::GreatestInB, -1),
+        rule('c', true, Only(block - 1), fault != Fault::LeastInC, 1),
+        rule('d', true, Any, fault == Fault::GreatestInD, -1),
+        rule('e', false, Any, fault == Fault::GreatestInE, -1),
     ];
     match fault {
         Fault::BlocksExchanged => {
-            rules[1].block = Some(block - 1);
-            rules[2].block = Some(block + 1);
+            rules[1].block = Only(block - 1);
+            rules[2].block = Only(block + 1);
         }
         Fault::CBeforeB => rules.swap(1, 2),
-        Fault::CWraps if block == 1 => rules[2].block = Some(9),
-        Fault::BWraps if block == 9 => rules[1].block = Some(1),
+        Fault::CWraps if block == 1 => rules[2].block = Only(9),
+        Fault::BWraps if block == 9 => rules[1].block = Only(1),
+        Fault::AnyHigherInB => rules[1].block = AtLeast(block + 1),
+        Fault::SameSortInE => rules[4].sort = true,
         Fault::ASkipped => drop(rules.remove(0)),
         Fault::BSkipped => drop(rules.remove(1)),
         Fault::CSkipped => drop(rules.remove(2)),
@@ -84,8 +111,7 @@ fn place_zero(
 ) -> (i64, Placed) {
     for rule in rules(zero.block, fault) {
         let fits = |other: &Delivery| {
-            (!rule.sort || other.sort == zero.sort)
-                && rule.block.map_or(true, |block| other.block == block)
+            (!rule.sort || other.sort == zero.sort) && rule.block.have(other.block)
         };
         let matches = hour
             .deliveries
@@ -115,7 +141,7 @@ fn number(other: &Delivery, placed: Option<&(i64, Placed)>, fault: Fault) -> Opt
         (0, Fault::PlacedPlaces) => placed.map(|&(internal, _)| internal),
         (0, _) => None,
         (_, Fault::EmptyPlacesNone) if other.mwh == 0 => None,
-        (sequence, _) => Some(10 * sequence),
+        (sequence, _) => Some(internal(sequence, fault)),
     }
 }
 
@@ -140,6 +166,9 @@ pub fn groups(hour: &Hour, internal: &[i64], fault: Fault) -> Vec<Group> {
         Fault::GroupsAscend => groups.sort_by_key(|group| group.internal),
         Fault::GroupsInDeckOrder => {}
         _ => groups.sort_by_key(|group| -group.internal),
+    }
+    if fault == Fault::FirstGroupOnly {
+        groups.truncate(1);
     }
     groups
 }

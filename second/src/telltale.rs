@@ -1,8 +1,8 @@
-//! The shortest deck found that tells a fault.
+//! The smallest deck found that tells a fault.
 
 use crate::faults::{named, Fault, Step};
 use crate::generate;
-use crate::lines::split;
+use crate::shrink::{shrink, size, Size};
 use crate::stats::Right;
 use std::io::{self, Write};
 
@@ -10,58 +10,50 @@ const SEED: u64 = 1;
 const TINY_DECKS: u64 = 60_000;
 const DECKS: u64 = 20_000;
 
-/// Sources, deliveries and D lines, then bytes.
-fn size(deck: &[u8]) -> (usize, usize) {
-    let entries =
-        split(deck).filter(|line| line.first().is_some_and(|letter| b"UPFTD".contains(letter)));
-    (entries.count(), deck.len())
+pub fn tiny_decks(count: u64) -> impl Iterator<Item = Vec<u8>> {
+    (0..count).map(|index| generate::tiny(SEED, index).deck)
 }
 
-/// A fault of reckoning is told on hours that are accepted.
-fn tells(deck: &[u8], fault: Fault, step: Step) -> bool {
-    let right = Right::of(deck);
-    (step == Step::Reading || right.is_accepted()) && right.is_told(deck, fault, step)
+pub fn decks(count: u64) -> impl Iterator<Item = Vec<u8>> {
+    (0..count).map(|index| generate::deck(SEED, index).deck)
 }
 
-fn shortest(fault: Fault, step: Step) -> Option<Vec<u8>> {
-    let tiny = (0..TINY_DECKS).map(|index| generate::tiny(SEED, index));
-    let decks = (0..DECKS).map(|index| generate::deck(SEED, index));
-    let others = decks.take(if step == Step::Reading {
-        DECKS as usize
-    } else {
-        0
-    });
-    let mut best: Option<Vec<u8>> = None;
-    for made in tiny.chain(others) {
-        let smaller = best
-            .as_ref()
-            .map_or(true, |best| size(&made.deck) < size(best));
-        if smaller && tells(&made.deck, fault, step) {
-            best = Some(made.deck);
+/// The smallest deck found, which keeps its refusals as it is made smaller. A
+/// fault of reckoning is told on hours that are accepted, where it can be.
+pub fn smallest(fault: Fault, step: Step) -> Option<Vec<u8>> {
+    let told = |deck: &[u8]| Right::of(deck).is_told(fault, step);
+    let told_of_accepted = |deck: &[u8]| {
+        let right = Right::of(deck);
+        right.is_accepted() && right.is_told(fault, step)
+    };
+    let found = match step {
+        Step::Reading => smallest_of(tiny_decks(TINY_DECKS).chain(decks(DECKS)), told),
+        Step::Reckoning => smallest_of(tiny_decks(TINY_DECKS), told_of_accepted)
+            .or_else(|| smallest_of(tiny_decks(TINY_DECKS), told)),
+    }?;
+    let refusals = |deck: &[u8]| Right::of(deck).refusals(fault, step);
+    let wanted = refusals(&found);
+    Some(shrink(found, |deck| refusals(deck) == wanted))
+}
+
+fn smallest_of(
+    decks: impl Iterator<Item = Vec<u8>>,
+    tells: impl Fn(&[u8]) -> bool,
+) -> Option<Vec<u8>> {
+    let mut best: Option<(Size, Vec<u8>)> = None;
+    for deck in decks {
+        let size = size(&deck);
+        let smaller = best.as_ref().map_or(true, |(least, _)| size < *least);
+        if smaller && tells(&deck) {
+            best = Some((size, deck));
         }
     }
-    best.map(|deck| without_needless_lines(deck, fault, step))
-}
-
-/// Drops lines as long as the deck still tells the fault.
-fn without_needless_lines(mut deck: Vec<u8>, fault: Fault, step: Step) -> Vec<u8> {
-    let mut at = 0;
-    while at < split(&deck).count() {
-        let kept = split(&deck).enumerate().filter(|&(line, _)| line != at);
-        let fewer = kept.map(|(_, line)| line).collect::<Vec<_>>().concat();
-        if tells(&fewer, fault, step) {
-            deck = fewer;
-            at = 0;
-        } else {
-            at += 1;
-        }
-    }
-    deck
+    best.map(|(_, deck)| deck)
 }
 
 /// Prints the deck; false where the name is unknown or no deck tells.
 pub fn print(name: &str) -> io::Result<bool> {
-    let found = named(name).and_then(|(fault, step)| shortest(fault, step));
+    let found = named(name).and_then(|(fault, step)| smallest(fault, step));
     match found {
         Some(deck) => io::stdout().write_all(&deck).map(|()| true),
         None => Ok(false),

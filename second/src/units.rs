@@ -133,7 +133,10 @@ impl<'a> State<'a> {
         let (b, low) = (self.basic(), self.low(rung));
         match (rung, self.fault) {
             (Rung::Last, Fault::LastFloorZero) => 0,
-            (_, Fault::FloorWithoutBasic) => (low - self.d).max(0),
+            (_, Fault::FloorWithoutBasic)
+            | (Rung::Normal, Fault::NormalWithoutBasic)
+            | (Rung::Oil, Fault::OilWithoutBasic)
+            | (Rung::Emergency, Fault::EmergencyWithoutBasic) => (low - self.d).max(0),
             (_, Fault::FloorNotLessDirect) => b.max(low),
             (_, Fault::FloorLessDirectFirst) => (b - self.d).max(low),
             (_, Fault::FloorOfSum) => b + low - self.d,

@@ -123,7 +123,7 @@ fn lengths(checks: &mut Checks) {
 }
 
 /// A deck with 32 sources, U, P and F in turn, and then one more line.
-fn after_32(line: &str) -> String {
+pub fn after_32(line: &str) -> String {
     let mut deck = "H 0\n".to_string();
     for at in 0..32 {
         deck += &match at % 3 {
@@ -135,8 +135,14 @@ fn after_32(line: &str) -> String {
     deck + line + "E\n"
 }
 
+/// A deck with 32 T lines, and then one more line.
+pub fn after_32_deliveries(line: &str) -> String {
+    let lines: String = (0..32).map(|at| format!("T 1 1 1 0 \"{at}\"\n")).collect();
+    format!("H 0\n{lines}{line}E\n")
+}
+
 /// A deck with 32 D lines of one percent, and then one more line.
-fn after_32_directs(line: &str) -> String {
+pub fn after_32_directs(line: &str) -> String {
     let lines = "D L 1 \"U1\" \"X\"\n".repeat(32);
     format!("H 0\n{U1}T 1 1 1 60 \"X\"\n{lines}{line}E\n")
 }
@@ -163,8 +169,9 @@ fn sources(checks: &mut Checks) {
 }
 
 fn deliveries_and_directs(checks: &mut Checks) {
-    let deliveries: String = (0..33).map(|at| format!("T 1 1 1 0 \"{at}\"\n")).collect();
-    checks.refused("a thirty-third T", format!("H 0\n{deliveries}E\n"), 4, 34);
+    checks.accepted("32 T lines", after_32_deliveries(""));
+    let more = after_32_deliveries("T 1 1 1 0 \"A\"\n");
+    checks.refused("a thirty-third T", more, 4, 34);
     checks.accepted("32 D lines that repeat", after_32_directs(""));
     checks.refused(
         "a thirty-third D",

@@ -4,6 +4,7 @@ mod deck;
 mod examples;
 mod generated;
 mod reckoning;
+mod told;
 
 use crate::deck::read;
 use crate::faults::Fault;
@@ -68,6 +69,7 @@ pub fn run() -> io::Result<bool> {
     deck::run(&mut checks);
     reckoning::run(&mut checks);
     generated::run(&mut checks);
+    told::run(&mut checks);
     println!("{} passed, {} failed", checks.passed, checks.failed);
     Ok(checks.failed == 0)
 }
