@@ -1,7 +1,8 @@
-/* calls DECKS CELLS DECKS-ANEW: every deck of the frames in DECKS through the proved calls, held against what the second program gave for the
-   same frames: the hour's cells by both reconstructions (CELLS) and the deck written anew from the hour that was read (DECKS-ANEW).
-   Each call is made on buffers longer than, as long as and shorter than its answer, and every 50th accepted hour record is spoiled in one field
-   after another; all lent memory is looked at after each call. */
+/* calls COUNT DECKS CELLS DECKS-ANEW: every deck of the COUNT frames in DECKS through the proved calls, held against what the second program gave
+   for the same frames: the hour's cells by both reconstructions (CELLS) and the deck written anew from the hour that was read (DECKS-ANEW).
+   Each call is made on buffers longer than, as long as and shorter than its answer, or than the cells that an hour refused with 12 or 13 would have,
+   and on an empty one; every 50th hour record, of accepted hours and of those, is spoiled in one field after another. All lent memory is looked at
+   after each call. */
 #include <inttypes.h>
 #include <stdbool.h>
 #include <stdio.h>
@@ -13,7 +14,7 @@ uint64_t trial_written(const uint8_t *deck, size_t n, uint8_t *out, size_t bytes
 uint64_t trial_spoiled(const uint8_t *deck, size_t n, size_t field, size_t at, bool by_price, int64_t *out, size_t cells);
 uint64_t trial_spoiled_written(const uint8_t *deck, size_t n, size_t field, size_t at, uint8_t *out, size_t bytes);
 
-enum { CELLS = 4160, ROOM = 8200, FIELDS = 31, ENTRIES = 32 };
+enum { CELLS = 4160, ROOM = 8200, FIELDS = 27, ENTRIES = 32 };
 
 static const uint64_t SHORT = 14u * 65536, NO_DECK = 15u * 65536;
 
@@ -97,13 +98,13 @@ enum call { PLAIN, PRICE, WRITTEN };
 
 static const char *const NAMES[] = {"by the plain rule", "by price", "written anew"};
 
-/* One call on a buffer of so much room: the refusal, or that many cells or bytes. */
+/* One call on a buffer of so much room: 14 where it is too short for the count, else the refusal, or that many cells or bytes. A deck that is
+   refused in reading has the count 0. */
 static void call(enum call what, struct part deck, size_t room, uint64_t refused, const void *answer, size_t count) {
     mark();
     uint64_t got = what == WRITTEN ? trial_written(deck.bytes, deck.size, bytes, room) : trial_cells(deck.bytes, deck.size, what == PRICE, cells, room);
-    bool fits = !refused && count <= room;
-    if (got != (refused ? refused : fits ? count : SHORT)) wrong(NAMES[what]);
-    if (!fits) {
+    if (got != (room < count ? SHORT : refused ? refused : count)) wrong(NAMES[what]);
+    if (refused || room < count) {
         kept(0, 0);
         return;
     }
@@ -115,30 +116,48 @@ static void call(enum call what, struct part deck, size_t room, uint64_t refused
 /* The same on buffers of several lengths. */
 static void calls(enum call what, struct part deck, uint64_t refused, const void *answer, size_t count) {
     call(what, deck, ROOM, refused, answer, count);
-    if (refused) return;
     call(what, deck, count, refused, answer, count);
     call(what, deck, count + 1, refused, answer, count);
     call(what, deck, count / 2, refused, answer, count);
+    call(what, deck, 0, refused, answer, count);
     if (count) call(what, deck, count - 1, refused, answer, count);
 }
 
-static size_t spoil(struct part deck) {
+/* A record spoiled in one field answers 15, be the buffer long enough for the record as it was, one short or empty. */
+static void spoiled(struct part deck, size_t field, size_t at, size_t in_cells, size_t in_bytes) {
+    mark();
+    const size_t rooms[][2] = {{ROOM, ROOM}, {in_cells ? in_cells - 1 : 0, in_bytes - 1}, {0, 0}};
+    for (size_t i = 0; i < sizeof rooms / sizeof *rooms; i++) {
+        for (int by_price = 0; by_price < 2; by_price++)
+            if (trial_spoiled(deck.bytes, deck.size, field, at, by_price, cells, rooms[i][0]) != NO_DECK) wrong("a spoiled record was reconstructed");
+        if (trial_spoiled_written(deck.bytes, deck.size, field, at, bytes, rooms[i][1]) != NO_DECK) wrong("a spoiled record was written");
+    }
+    kept(0, 0);
+}
+
+static size_t spoil(struct part deck, size_t in_cells, size_t in_bytes) {
     size_t records = 0;
     for (size_t field = 0; field < FIELDS; field++)
-        for (size_t at = 0; at < ENTRIES; at += ENTRIES - 1, records++) {
-            mark();
-            for (int by_price = 0; by_price < 2; by_price++)
-                if (trial_spoiled(deck.bytes, deck.size, field, at, by_price, cells, ROOM) != NO_DECK) wrong("a spoiled record was reconstructed");
-            if (trial_spoiled_written(deck.bytes, deck.size, field, at, bytes, ROOM) != NO_DECK) wrong("a spoiled record was written");
-            kept(0, 0);
-        }
+        for (size_t at = 0; at < ENTRIES; at += ENTRIES - 1, records++) spoiled(deck, field, at, in_cells, in_bytes);
     return records;
+}
+
+/* How many cells the hour of a deck that is read has, counted from its lines. */
+static size_t cells_of(struct part deck) {
+    size_t sources = 0, deliveries = 0;
+    for (size_t i = 0; i < deck.size; i++) {
+        if (i && deck.bytes[i - 1] != '\n') continue;
+        sources += deck.bytes[i] == 'U' || deck.bytes[i] == 'P' || deck.bytes[i] == 'F';
+        deliveries += deck.bytes[i] == 'T';
+    }
+    return deliveries * sources * 4 + sources * 2;
 }
 
 /* The numbers of an answer, one a line. */
 static size_t numbers(struct part p, int64_t *xs) {
     size_t count = 0;
     for (const char *s = (const char *)p.bytes, *end = s + p.size; s < end; count++) {
+        if (count == CELLS) wrong("an answer of too many cells");
         char *after;
         xs[count] = strtoll(s, &after, 10);
         s = after + 1;
@@ -147,22 +166,30 @@ static size_t numbers(struct part p, int64_t *xs) {
 }
 
 int main(int argc, char **argv) {
-    if (argc != 4) return 2;
-    struct text decks = whole(argv[1]), hours = whole(argv[2]), anew = whole(argv[3]);
+    if (argc != 5) return 2;
+    struct text decks = whole(argv[2]), hours = whole(argv[3]), anew = whole(argv[4]);
     struct part deck, hour, again;
-    size_t accepted = 0, full = 0, spoiled = 0;
+    size_t unread = 0, accepted = 0, late = 0, full = 0, records = 0;
     for (frame = 1; next(&decks, "deck ", &deck); frame++) {
         static int64_t right[CELLS];
         if (!next(&hours, "cells ", &hour) || !next(&anew, "rewritten ", &again)) wrong("no answer");
-        uint64_t refused = refusal(hour);
-        size_t count = refused ? 0 : numbers(hour, right);
+        uint64_t refused = refusal(hour), in_reading = refusal(again), number = refused / 65536;
+        if (in_reading ? in_reading != refused : refused && number != 12 && number != 13) wrong("refused in two ways");
+        size_t count = in_reading ? 0 : cells_of(deck);
+        if (!refused && numbers(hour, right) != count) wrong("another number of cells than the lines have");
         calls(PLAIN, deck, refused, right, count);
         calls(PRICE, deck, refused, right, count);
-        calls(WRITTEN, deck, refusal(again), again.bytes, again.size);
-        if (refused) continue;
-        full += count == CELLS;
-        if (accepted++ % 50 == 0) spoiled += spoil(deck);
+        calls(WRITTEN, deck, in_reading, again.bytes, in_reading ? 0 : again.size);
+        unread += in_reading != 0;
+        if (in_reading) continue;
+        full += !refused && count == CELLS;
+        if ((refused ? late++ : accepted++) % 50 == 0) records += spoil(deck, count, again.size);
     }
-    printf("calls: %zu decks as by the second program: %zu hours cell by cell, %zu of them 32 by 32; %zu spoiled records refused\n", frame - 1, accepted, full, spoiled);
-    return accepted ? 0 : 1;
+    frame--;
+    if (next(&hours, "cells ", &hour) || next(&anew, "rewritten ", &again)) wrong("an answer too many");
+    if (frame != strtoull(argv[1], NULL, 10)) wrong("the last, and more or fewer were asked for");
+    if (!unread || !accepted || !late) wrong("the last, and no deck was accepted, or none refused in reading, or none with 12 or 13");
+    printf("calls: %zu decks as by the second program: %zu refused in reading, %zu with 12 or 13, %zu hours cell by cell; %zu of 32 by 32; %zu spoiled records refused\n",
+           frame, unread, late, accepted, full, records);
+    return 0;
 }

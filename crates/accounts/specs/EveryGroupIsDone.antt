@@ -8,5 +8,5 @@ use Rattle.rules.specs.Hour.{internalAt, numbers}
 use Rattle.rules.specs.Writing.{valid}
 use Rattle.rules.specs.declared.Hour.{Hour}
 
-pub every-group-is-done : (h : Hour) → valid h ≡ true → (j : ℕ) → internalAt (numbers h) j < 1000
+pub every-group-is-done : (h : Hour) → valid h ≡ true → (j : ℕ) → internalAt (numbers h) j .0 < 1000
 every-group-is-done h v j = numbers-below h (valid-sequences h v) j

@@ -1,15 +1,15 @@
 -- "A group's net MWh equals its total": of every valid hour record, over the answer's cells of the group of any delivery.
 use mathlib.Core.Bool.{true}
 use mathlib.Core.List.{List}
-use mathlib.Core.Path.{_≡_, refl}
+use mathlib.Core.Path.{_≡_}
 use Prim.Native.Nat.{ℕ, _+_, _<_}
 use native.Mathlib.Omega.{arith}
 use lib.IntN.{ℤ, pos, _+ℤ_}
-use borrow.Author.Tests.{eq-eqb}
 use Rattle.accounts.specs.ValidHour.{valid-balances}
 use Rattle.accounts.specs.EveryGroupIsDone.{every-group-is-done}
 use Rattle.balance.specs.AnswerCells.{cellAt, pairPlace}
 use Rattle.balance.specs.NetIsTotal.{answer-net}
+use Rattle.laws.specs.Internal.{number-itself}
 use Rattle.laws.specs.Signed.{sumℤ}
 use Rattle.laws.specs.Sums.{sumTo-part}
 use Rattle.rules.specs.Hour.{internalAt, member, scheduled, counted, numbers, answer}
@@ -23,7 +23,7 @@ use Rattle.rules.specs.declared.InternalSequence.{InternalSequence}
 member-counts : (ns : List InternalSequence) (n j : ℕ) → j < n → 0 < counted ns (internalAt ns j) n
 member-counts ns n j l =
     let x = internalAt ns j in
-    let one : _≡_ {A = ℕ} (if member ns x j then 1 else 0) 1 = rw (eq-eqb x x refl) in
+    let one : _≡_ {A = ℕ} (if member ns x j then 1 else 0) 1 = rw (number-itself x) in
     omega (arith, sumTo-part (λ i. if member ns x i then 1 else 0) n j l, one)
 
 pub net-mwh-is-the-total : (h : Hour) → valid h ≡ true → (xs : List ℤ) → answer h ≡ accepted xs → (k : ℕ) → k < h .ndeliveries →

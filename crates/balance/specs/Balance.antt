@@ -14,13 +14,13 @@ use Rattle.merit.specs.LevelNeverBelowB.{stateAt}
 use Rattle.rules.specs.Group.{Item, directMwh, incrementalMwh, directCost, incrementalCost}
 use Rattle.rules.specs.Hour.{numbers, Progress, reconstructed, pairCells, cellsOf, answer}
 use Rattle.rules.specs.Refusals.{accepted}
-use Rattle.rules.specs.Units.{cost, generation}
+use Rattle.rules.specs.Units.{generation, generationCost}
 use Rattle.rules.specs.declared.Hour.{Hour}
 use Rattle.rules.specs.declared.InternalSequence.{InternalSequence}
 
 pub record Balances (h : Hour) (xs : List ℤ) (i : ℕ) : Type 0 where
   pub mwh : sumℤ (λ j. cellAt xs (pairPlace h j i 0) +ℤ cellAt xs (pairPlace h j i 1)) (h .ndeliveries) +ℤ cellAt xs (openPlace h i 0) ≡ pos (generation (plantAt h i))
-  pub grains : sumℤ (λ j. cellAt xs (pairPlace h j i 2) +ℤ cellAt xs (pairPlace h j i 3)) (h .ndeliveries) +ℤ cellAt xs (openPlace h i 1) ≡ pos (cost (plantAt h i) (generation (plantAt h i)))
+  pub grains : sumℤ (λ j. cellAt xs (pairPlace h j i 2) +ℤ cellAt xs (pairPlace h j i 3)) (h .ndeliveries) +ℤ cellAt xs (openPlace h i 1) ≡ pos (generationCost (plantAt h i))
 
 -- a whole run is balanced
 pub run-balanced : (h : Hour) → Given h → (p : Progress) → reconstructed h ≡ accepted p → Balanced h (numbers h) 0 p

@@ -11,6 +11,7 @@ use mir.Val.{SFits, hbits}
 use Rattle.balance.specs.AnswerCells.{cellAt, answer-cells}
 use Rattle.balance.specs.HourBalances.{plantAt, Given, started, started-at, afterLines, Grouped, groups-keep, Balanced, lines-directed, start-balanced, none-balanced, grouped-balanced}
 use Rattle.balance.specs.SharesMakeUpTheAmount.{share-most}
+use Rattle.laws.specs.Internal.{internal}
 use Rattle.merit.specs.LevelNeverBelowB.{Sound, stateAt, Took, moved-sound}
 use Rattle.merit.specs.NumbersStaySmall.{PlantSmall, Small, level-small, changed-small, paid-small, opened-small, took-small, shift-small}
 use Rattle.merit.specs.RemainderMoves.{Shift, shift-moved, remainder-moves}
@@ -47,7 +48,7 @@ module _ (h : Hour) (ns : List InternalSequence) where
     pub states : (i : ℕ) → Small (stateAt (p .states) i)
     pub cells : (j i : ℕ) (item : Item) → j < h .ndeliveries → SmallCell (p .cells j i item)
 
-  shared-small : (x : ℕ) (ss ts us : List Running) (cell : Cells) (j i : ℕ) (item : Item) → j < h .ndeliveries → amount item (stateAt ss i) (stateAt ts i) (stateAt us i) .size ≤ 100_000_000_000_000 →
+  shared-small : (x : InternalSequence) (ss ts us : List Running) (cell : Cells) (j i : ℕ) (item : Item) → j < h .ndeliveries → amount item (stateAt ss i) (stateAt ts i) (stateAt us i) .size ≤ 100_000_000_000_000 →
       SmallCell (cell j i item) → SmallCell (shared h ns x ss ts us cell j i item)
   unfolding shared
   shared-small x ss ts us cell j i item l small old = go (member ns x j)
@@ -64,7 +65,7 @@ module _ (h : Hour) (ns : List InternalSequence) where
       rw (g .is)
       (record {
         states = smallAfter;
-        cells = λ j i item l. shared-small x (p .states) ts us (p .cells) j i item l
+        cells = λ j i item l. shared-small (internal x) (p .states) ts us (p .cells) j i item l
             (amount-small item (stateAt (p .states) i) (stateAt ts i) (stateAt us i) (took i .sound) (moved-sound _ _ (took i .sound) (shift-moved (took i .sound) (moves i))) (smallLines i) (smallAfter i)) (k .cells j i item l);
       })
     where

@@ -13,6 +13,7 @@ use lib.ListN.{getD, List·getD-map}
 use Rattle.balance.specs.SharesMakeUpTheAmount.{shares-sum, share-none}
 use Rattle.balance.specs.TakenAndLeft.{worth, opened-worth, group-mwh, group-cost}
 use Rattle.laws.specs.Choices.{accepted-same, Both, then-passed}
+use Rattle.laws.specs.Internal.{internal, number-other}
 use Rattle.laws.specs.Signed.{value, sumℤ, sumℤ-zero, sumℤ-carried}
 use Rattle.laws.specs.Sums.{sumTo-most, sumTo-add}
 use Rattle.merit.specs.ChangedFromB.{Starts}
@@ -23,7 +24,7 @@ use Rattle.rules.specs.Hour.{internalAt, member, scheduled, counted, share, Cel
 use Rattle.rules.specs.Reading.{percentsOf}
 use Rattle.rules.specs.Record.{noSource, sourceAt}
 use Rattle.rules.specs.Refusals.{Outcome, accepted, andThen}
-use Rattle.rules.specs.Units.{cost, generation}
+use Rattle.rules.specs.Units.{generation, generationCost}
 use Rattle.rules.specs.Words.{if_then_else_}
 use Rattle.rules.specs.declared.Direct.{Direct}
 use Rattle.rules.specs.declared.Hour.{Hour}
@@ -44,30 +45,30 @@ module _ (h : Hour) (ns : List InternalSequence) where
   -- One group.
 
   abbrev pub afterLines : ℕ → Progress → List Running
-  afterLines x p = groupLines (member ns x) (h .directs) (p .states) (h .ndirects)
+  afterLines x p = groupLines (member ns (internal x)) (h .directs) (p .states) (h .ndirects)
 
   -- a group with members, from p to q
   pub record Grouped (x : ℕ) (p q : Progress) : Type 0 where
-    pub members : 0 < counted ns x (h .ndeliveries)
+    pub members : 0 < counted ns (internal x) (h .ndeliveries)
     pub us : List Running
-    pub done : remainder (record { 0 = x }) (h .nsources) (scheduled h ns x (h .ndeliveries)) (tookAll (h .nsources) (p .states) (afterLines x p)) (afterLines x p) ≡ accepted us
-    pub is : q ≡ record { states = us; cells = shared h ns x (p .states) (afterLines x p) us (p .cells) }
+    pub done : remainder (internal x) (h .nsources) (scheduled h ns (internal x) (h .ndeliveries)) (tookAll (h .nsources) (p .states) (afterLines x p)) (afterLines x p) ≡ accepted us
+    pub is : q ≡ record { states = us; cells = shared h ns (internal x) (p .states) (afterLines x p) us (p .cells) }
 
-  pub group-passed : (x : ℕ) (p q : Progress) → group h ns x p ≡ accepted q → ((counted ns x (h .ndeliveries) ≡ 0) × (q ≡ p)) ⊎ Grouped x p q
+  pub group-passed : (x : ℕ) (p q : Progress) → group h ns (internal x) p ≡ accepted q → ((counted ns (internal x) (h .ndeliveries) ≡ 0) × (q ≡ p)) ⊎ Grouped x p q
   unfolding group rest
-  group-passed x p q e = go (eqb (counted ns x (h .ndeliveries)) 0) refl e
+  group-passed x p q e = go (eqb (counted ns (internal x) (h .ndeliveries)) 0) refl e
     where
       after : List Running → Outcome Progress
-      after us = accepted (record { states = us; cells = shared h ns x (p .states) (afterLines x p) us (p .cells) })
+      after us = accepted (record { states = us; cells = shared h ns (internal x) (p .states) (afterLines x p) us (p .cells) })
 
       done : Outcome (List Running)
-      done = remainder (record { 0 = x }) (h .nsources) (scheduled h ns x (h .ndeliveries)) (tookAll (h .nsources) (p .states) (afterLines x p)) (afterLines x p)
+      done = remainder (internal x) (h .nsources) (scheduled h ns (internal x) (h .ndeliveries)) (tookAll (h .nsources) (p .states) (afterLines x p)) (afterLines x p)
 
-      go : (y : Bool) → eqb (counted ns x (h .ndeliveries)) 0 ≡ y → (if y then accepted p else andThen done after) ≡ accepted q → ((counted ns x (h .ndeliveries) ≡ 0) × (q ≡ p)) ⊎ Grouped x p q
-      go true z a = inl (eqb-true (counted ns x (h .ndeliveries)) 0 z, sym (accepted-same p q a))
+      go : (y : Bool) → eqb (counted ns (internal x) (h .ndeliveries)) 0 ≡ y → (if y then accepted p else andThen done after) ≡ accepted q → ((counted ns (internal x) (h .ndeliveries) ≡ 0) × (q ≡ p)) ⊎ Grouped x p q
+      go true z a = inl (eqb-true (counted ns (internal x) (h .ndeliveries)) 0 z, sym (accepted-same p q a))
       go false z a =
           let b : Both done after q = then-passed done after q a in
-          let f = eqb-false (counted ns x (h .ndeliveries)) 0 z in
+          let f = eqb-false (counted ns (internal x) (h .ndeliveries)) 0 z in
           inr (record { members = omega arith; us = b .mid; done = b .first; is = sym (accepted-same _ q (b .second)) })
 
   -- the hour's start, and what each group keeps
@@ -77,12 +78,12 @@ module _ (h : Hour) (ns : List InternalSequence) where
   pub started-at : (i : ℕ) → stateAt (started .states) i ≡ opened (plantAt h i)
   started-at i = List·getD-map (λ (s : Source). opened (s .plant)) (h .sources) i noSource
 
-  pub groups-keep : (P : ℕ → Progress → Type 0) → P 1000 started → ((x : ℕ) (p : Progress) → counted ns x (h .ndeliveries) ≡ 0 → P (suc x) p → P x p) → ((x : ℕ) (p q : Progress) → P (suc x) p → Grouped x p q → P x q) →
+  pub groups-keep : (P : ℕ → Progress → Type 0) → P 1000 started → ((x : ℕ) (p : Progress) → counted ns (internal x) (h .ndeliveries) ≡ 0 → P (suc x) p → P x p) → ((x : ℕ) (p q : Progress) → P (suc x) p → Grouped x p q → P x q) →
       (k : ℕ) → k ≤ 1000 → (p : Progress) → groups h ns k ≡ accepted p → P (1000 - k) p
   unfolding groups
   groups-keep P start skip turn zero l p e = rw (← accepted-same started p e) start
   groups-keep P start skip turn (suc k) l q e =
-      let b : Both (groups h ns k) (group h ns (999 - k)) q = then-passed (groups h ns k) (group h ns (999 - k)) q e in
+      let b : Both (groups h ns k) (group h ns (internal (999 - k))) q = then-passed (groups h ns k) (group h ns (internal (999 - k))) q e in
       let up : 1000 - k ≡ suc (999 - k) = omega arith in
       let down : 1000 - suc k ≡ 999 - k = omega arith in
       let c : P (suc (999 - k)) (b .mid) = rw up at (groups-keep P start skip turn k (omega arith) (b .mid) (b .first)) in
@@ -92,7 +93,7 @@ module _ (h : Hour) (ns : List InternalSequence) where
       ])
 
   -- its shares are added to the cells, where its members had nothing
-  pub shared-adds : (x : ℕ) (ss ts us : List Running) (cell : Cells) (j i : ℕ) (item : Item) → (member ns x j ≡ true → cell j i item ≡ pos 0) →
+  pub shared-adds : (x : InternalSequence) (ss ts us : List Running) (cell : Cells) (j i : ℕ) (item : Item) → (member ns x j ≡ true → cell j i item ≡ pos 0) →
       shared h ns x ss ts us cell j i item ≡ cell j i item +ℤ share h ns x (amount item (stateAt ss i) (stateAt ts i) (stateAt us i)) j
   unfolding shared
   shared-adds x ss ts us cell j i item f = go (member ns x j) refl
@@ -105,42 +106,42 @@ module _ (h : Hour) (ns : List InternalSequence) where
       go false e = sym (rw (share-none h ns x a j e) (+ℤ-idr (cell j i item)))
 
   -- its members have their shares
-  pub shared-members : (x : ℕ) (ss ts us : List Running) (cell : Cells) (j i : ℕ) (item : Item) → member ns x j ≡ true →
+  pub shared-members : (x : InternalSequence) (ss ts us : List Running) (cell : Cells) (j i : ℕ) (item : Item) → member ns x j ≡ true →
       shared h ns x ss ts us cell j i item ≡ share h ns x (amount item (stateAt ss i) (stateAt ts i) (stateAt us i)) j
   unfolding shared
   shared-members x ss ts us cell j i item e = rw e
 
   -- and the others' cells are kept
-  pub shared-keeps : (x : ℕ) (ss ts us : List Running) (cell : Cells) (j i : ℕ) (item : Item) → (internalAt ns j ≡ x → ⊥) → shared h ns x ss ts us cell j i item ≡ cell j i item
+  pub shared-keeps : (x : InternalSequence) (ss ts us : List Running) (cell : Cells) (j i : ℕ) (item : Item) → (internalAt ns j .0 ≡ x .0 → ⊥) → shared h ns x ss ts us cell j i item ≡ cell j i item
   unfolding shared
-  shared-keeps x ss ts us cell j i item f = rw (ne-eqb (internalAt ns j) x f)
+  shared-keeps x ss ts us cell j i item f = rw (number-other (internalAt ns j) x f)
 
   -- All groups.
 
   -- a delivery whose number is below x
   abbrev pub below : ℕ → ℕ → Bool
-  below x j = ltb (internalAt ns j) x
+  below x j = ltb (internalAt ns j .0) x
 
   -- where a run stands when all numbers from x up are done
   pub record Balanced (x : ℕ) (p : Progress) : Type 0 where
     pub sound : (i : ℕ) → Sound (stateAt (p .states) i)
     pub plant : (i : ℕ) → stateAt (p .states) i .plant ≡ plantAt h i
     pub percent : (i : ℕ) → stateAt (p .states) i .percent + percents (below x) (h .directs) i (h .ndirects) ≤ 100
-    pub untouched : (j i : ℕ) (item : Item) → internalAt ns j < x → p .cells j i item ≡ pos 0
+    pub untouched : (j i : ℕ) (item : Item) → internalAt ns j .0 < x → p .cells j i item ≡ pos 0
     pub mwh : (i : ℕ) → sumℤ (λ j. p .cells j i directMwh +ℤ p .cells j i incrementalMwh) (h .ndeliveries) +ℤ pos (stateAt (p .states) i .v) ≡ pos (generation (plantAt h i))
-    pub grains : (i : ℕ) → sumℤ (λ j. p .cells j i directCost +ℤ p .cells j i incrementalCost) (h .ndeliveries) +ℤ pos (worth (stateAt (p .states) i)) ≡ pos (cost (plantAt h i) (generation (plantAt h i)))
+    pub grains : (i : ℕ) → sumℤ (λ j. p .cells j i directCost +ℤ p .cells j i incrementalCost) (h .ndeliveries) +ℤ pos (worth (stateAt (p .states) i)) ≡ pos (generationCost (plantAt h i))
 
   -- the lines of number x and those below it are those below x + 1
-  pub lines-left : (x i n : ℕ) → percents (member ns x) (h .directs) i n + percents (below x) (h .directs) i n ≡ percents (below (suc x)) (h .directs) i n
+  pub lines-left : (x i n : ℕ) → percents (member ns (internal x)) (h .directs) i n + percents (below x) (h .directs) i n ≡ percents (below (suc x)) (h .directs) i n
   lines-left x i n = sumTo-add n _ _ _ (λ q l. one (getD (h .directs) q noDirect))
     where
       put : (a b c : Bool) (line : Direct) → (a ≡ true → (b ≡ false) × (c ≡ true)) → (a ≡ false → c ≡ b) → percentOf a line i + percentOf b line i ≡ percentOf c line i
       put true b c line f g = rw (f refl .0, f refl .1) (omega arith)
       put false b c line f g = rw (g refl) (omega arith)
 
-      one : (line : Direct) → percentOf (member ns x (line .delivery)) line i + percentOf (below x (line .delivery)) line i ≡ percentOf (below (suc x) (line .delivery)) line i
+      one : (line : Direct) → percentOf (member ns (internal x) (line .delivery)) line i + percentOf (below x (line .delivery)) line i ≡ percentOf (below (suc x) (line .delivery)) line i
       one line =
-          let y : ℕ = internalAt ns (line .delivery) in
+          let y : ℕ = internalAt ns (line .delivery) .0 in
           put (eqb y x) (ltb y x) (ltb y (suc x)) line
           (λ e. let z = eqb-true y x e in (le-ltb y x (omega arith), lt-ltb y (suc x) (omega arith)))
           (λ e. let z = eqb-false y x e in elim (decLt y x) [
@@ -149,8 +150,8 @@ module _ (h : Hour) (ns : List InternalSequence) where
           ])
 
   -- a group's D lines
-  pub lines-directed : (x : ℕ) (p : Progress) → Balanced (suc x) p → (i : ℕ) → Directed (percents (member ns x) (h .directs) i (h .ndirects)) (stateAt (p .states) i) (stateAt (afterLines x p) i)
-  lines-directed x p b i = groupLines-directed (member ns x) (h .directs) (p .states) i (b .sound i) (h .ndirects) (omega (arith, lines-left x i (h .ndirects), b .percent i))
+  pub lines-directed : (x : ℕ) (p : Progress) → Balanced (suc x) p → (i : ℕ) → Directed (percents (member ns (internal x)) (h .directs) i (h .ndirects)) (stateAt (p .states) i) (stateAt (afterLines x p) i)
+  lines-directed x p b i = groupLines-directed (member ns (internal x)) (h .directs) (p .states) i (b .sound i) (h .ndirects) (omega (arith, lines-left x i (h .ndirects), b .percent i))
 
   -- a group with members
   pub grouped-balanced : (x : ℕ) (p q : Progress) → Balanced (suc x) p → Grouped x p q → Balanced x q
@@ -160,7 +161,7 @@ module _ (h : Hour) (ns : List InternalSequence) where
         sound = λ i. moved-sound _ _ (d i .took .sound) (m i);
         plant = λ i. ap (λ (y : Running). y .plant) (m i .is) ∙ d i .took .plant ∙ b .plant i;
         percent = λ i. let e = ap (λ (y : Running). y .percent) (m i .is) in omega (arith, e, d i .percent, lines-left x i (h .ndirects), b .percent i);
-        untouched = λ j i item y. shared-keeps x ss ts us (p .cells) j i item (λ z. omega arith) ∙ b .untouched j i item (omega arith);
+        untouched = λ j i item y. shared-keeps (internal x) ss ts us (p .cells) j i item (λ z. omega arith) ∙ b .untouched j i item (omega arith);
         mwh = λ i. column i directMwh incrementalMwh (stateAt us i .v) (stateAt ss i .v) _ (group-mwh (stateAt ss i) (stateAt ts i) (stateAt us i) (b .sound i) (d i .took) (m i)) (b .mwh i);
         grains = λ i. column i directCost incrementalCost (worth (stateAt us i)) (worth (stateAt ss i)) _ (group-cost (stateAt ss i) (stateAt ts i) (stateAt us i) (b .sound i) (d i .took) (m i)) (b .grains i);
       })
@@ -174,7 +175,7 @@ module _ (h : Hour) (ns : List InternalSequence) where
       us : List Running
       us = g .us
 
-      d : (i : ℕ) → Directed (percents (member ns x) (h .directs) i (h .ndirects)) (stateAt ss i) (stateAt ts i)
+      d : (i : ℕ) → Directed (percents (member ns (internal x)) (h .directs) i (h .ndirects)) (stateAt ss i) (stateAt ts i)
       d = lines-directed x p b
 
       m : (i : ℕ) → Moved (stateAt ts i) (stateAt us i)
@@ -183,18 +184,18 @@ module _ (h : Hour) (ns : List InternalSequence) where
       part : (i : ℕ) (item : Item) → Amount
       part i item = amount item (stateAt ss i) (stateAt ts i) (stateAt us i)
 
-      adds : (i : ℕ) (item : Item) (j : ℕ) → j < h .ndeliveries → shared h ns x ss ts us (p .cells) j i item ≡ p .cells j i item +ℤ share h ns x (part i item) j
-      adds i item j y = shared-adds x ss ts us (p .cells) j i item (λ z. b .untouched j i item (omega (arith, eqb-true (internalAt ns j) x z)))
+      adds : (i : ℕ) (item : Item) (j : ℕ) → j < h .ndeliveries → shared h ns (internal x) ss ts us (p .cells) j i item ≡ p .cells j i item +ℤ share h ns (internal x) (part i item) j
+      adds i item j y = shared-adds (internal x) ss ts us (p .cells) j i item (λ z. b .untouched j i item (omega (arith, eqb-true (internalAt ns j .0) x z)))
 
       column : (i : ℕ) (v w : Item) (after before whole : ℕ) →
           (value (part i v) +ℤ value (part i w)) +ℤ pos after ≡ pos before →
           sumℤ (λ j. p .cells j i v +ℤ p .cells j i w) (h .ndeliveries) +ℤ pos before ≡ pos whole →
-          sumℤ (λ j. shared h ns x ss ts us (p .cells) j i v +ℤ shared h ns x ss ts us (p .cells) j i w) (h .ndeliveries) +ℤ pos after ≡ pos whole
+          sumℤ (λ j. shared h ns (internal x) ss ts us (p .cells) j i v +ℤ shared h ns (internal x) ss ts us (p .cells) j i w) (h .ndeliveries) +ℤ pos after ≡ pos whole
       column i v w after before whole y z =
-          sumℤ-carried (h .ndeliveries) (λ j. p .cells j i v) (λ j. p .cells j i w) (share h ns x (part i v)) (share h ns x (part i w))
-          (λ j. shared h ns x ss ts us (p .cells) j i v) (λ j. shared h ns x ss ts us (p .cells) j i w)
+          sumℤ-carried (h .ndeliveries) (λ j. p .cells j i v) (λ j. p .cells j i w) (share h ns (internal x) (part i v)) (share h ns (internal x) (part i w))
+          (λ j. shared h ns (internal x) ss ts us (p .cells) j i v) (λ j. shared h ns (internal x) ss ts us (p .cells) j i w)
           (value (part i v)) (value (part i w)) after before whole (adds i v) (adds i w)
-          (shares-sum h ns x (part i v) (g .members)) (shares-sum h ns x (part i w) (g .members)) y z
+          (shares-sum h ns (internal x) (part i v) (g .members)) (shares-sum h ns (internal x) (part i w) (g .members)) y z
 
   -- a number that no delivery has
   pub none-balanced : (x : ℕ) (p : Progress) → Balanced (suc x) p → Balanced x p
@@ -216,7 +217,7 @@ module _ (h : Hour) (ns : List InternalSequence) where
         percent = λ i. let e = ap (λ (y : Running). y .percent) (started-at i) in omega (arith, e, g .percents i, fewer i);
         untouched = λ j i item y. refl;
         mwh = λ i. rw (started-at i, sumℤ-zero (h .ndeliveries)) (+ℤ-idl (pos (generation (plantAt h i))));
-        grains = λ i. rw (started-at i, sumℤ-zero (h .ndeliveries), opened-worth (plantAt h i) (g .starts i)) (+ℤ-idl (pos (cost (plantAt h i) (generation (plantAt h i)))));
+        grains = λ i. rw (started-at i, sumℤ-zero (h .ndeliveries), opened-worth (plantAt h i) (g .starts i)) (+ℤ-idl (pos (generationCost (plantAt h i))));
       }
     where
       put : (a : Bool) (line : Direct) (i : ℕ) → percentOf a line i ≤ percentOf true line i

@@ -7,6 +7,7 @@ use native.Mathlib.Decide.{ℕ-discrete}
 use native.Mathlib.Omega.{arith}
 use borrow.Author.Tests.{eqb-true}
 use lib.IntN.{ℤ, pos, _+ℤ_}
+use Rattle.laws.specs.Internal.{internal}
 use Rattle.laws.specs.Signed.{value, sumℤ, sumℤ-add, sumℤ-same, sumℤ-left, left-taken}
 use Rattle.laws.specs.Sums.{sumTo-add}
 use Rattle.balance.specs.AnswerCells.{cellAt, pairPlace, pair-at, answer-cells}
@@ -46,20 +47,20 @@ module _ (number : InternalSequence) (n total : ℕ) (ss ts us : List Running) (
 -- Of the answer.
 
 -- the MWh of group x's members from all sources
-abbrev groupMwh : Hour → List InternalSequence → ℕ → Cells → ℤ
+abbrev groupMwh : Hour → List InternalSequence → InternalSequence → Cells → ℤ
 groupMwh h ns x cell = sumℤ (λ i. sumℤ (λ j. if member ns x j then cell j i directMwh +ℤ cell j i incrementalMwh else pos 0) (h .ndeliveries)) (h .nsources)
 
 module _ (h : Hour) (ns : List InternalSequence) where
   -- the groups from x up have their totals
   abbrev Nets : ℕ → Progress → Type 0
-  Nets x p = (y : ℕ) → x ≤ y → y < 1000 → 0 < counted ns y (h .ndeliveries) → groupMwh h ns y (p .cells) ≡ pos (scheduled h ns y (h .ndeliveries))
+  Nets x p = (y : ℕ) → x ≤ y → y < 1000 → 0 < counted ns (internal y) (h .ndeliveries) → groupMwh h ns (internal y) (p .cells) ≡ pos (scheduled h ns (internal y) (h .ndeliveries))
 
   -- the group at hand
-  own-net : (x : ℕ) (p q : Progress) → Balanced h ns (suc x) p → Grouped h ns x p q → groupMwh h ns x (q .cells) ≡ pos (scheduled h ns x (h .ndeliveries))
+  own-net : (x : ℕ) (p q : Progress) → Balanced h ns (suc x) p → Grouped h ns x p q → groupMwh h ns (internal x) (q .cells) ≡ pos (scheduled h ns (internal x) (h .ndeliveries))
   own-net x p q b g =
       rw (g .is)
       (sumℤ-same _ (λ i. value (part i directMwh) +ℤ value (part i incrementalMwh)) (h .nsources) (λ i l. row i) ∙
-      group-total (record { 0 = x }) (h .nsources) (scheduled h ns x (h .ndeliveries)) (p .states) ts (g .us) (λ i. lines-directed h ns x p b i .took) (g .done) (b .sound))
+      group-total (internal x) (h .nsources) (scheduled h ns (internal x) (h .ndeliveries)) (p .states) ts (g .us) (λ i. lines-directed h ns x p b i .took) (g .done) (b .sound))
     where
       ts : List Running
       ts = afterLines h ns x p
@@ -68,20 +69,20 @@ module _ (h : Hour) (ns : List InternalSequence) where
       part i item = amount item (stateAt (p .states) i) (stateAt ts i) (stateAt (g .us) i)
 
       cell : Cells
-      cell = shared h ns x (p .states) ts (g .us) (p .cells)
+      cell = shared h ns (internal x) (p .states) ts (g .us) (p .cells)
 
-      one : (i j : ℕ) (y : Bool) → member ns x j ≡ y → (if y then cell j i directMwh +ℤ cell j i incrementalMwh else pos 0) ≡ share h ns x (part i directMwh) j +ℤ share h ns x (part i incrementalMwh) j
-      one i j true e = rw (shared-members h ns x (p .states) ts (g .us) (p .cells) j i directMwh e, shared-members h ns x (p .states) ts (g .us) (p .cells) j i incrementalMwh e)
-      one i j false e = rw (share-none h ns x (part i directMwh) j e, share-none h ns x (part i incrementalMwh) j e)
+      one : (i j : ℕ) (y : Bool) → member ns (internal x) j ≡ y → (if y then cell j i directMwh +ℤ cell j i incrementalMwh else pos 0) ≡ share h ns (internal x) (part i directMwh) j +ℤ share h ns (internal x) (part i incrementalMwh) j
+      one i j true e = rw (shared-members h ns (internal x) (p .states) ts (g .us) (p .cells) j i directMwh e, shared-members h ns (internal x) (p .states) ts (g .us) (p .cells) j i incrementalMwh e)
+      one i j false e = rw (share-none h ns (internal x) (part i directMwh) j e, share-none h ns (internal x) (part i incrementalMwh) j e)
 
-      row : (i : ℕ) → sumℤ (λ j. if member ns x j then cell j i directMwh +ℤ cell j i incrementalMwh else pos 0) (h .ndeliveries) ≡ value (part i directMwh) +ℤ value (part i incrementalMwh)
+      row : (i : ℕ) → sumℤ (λ j. if member ns (internal x) j then cell j i directMwh +ℤ cell j i incrementalMwh else pos 0) (h .ndeliveries) ≡ value (part i directMwh) +ℤ value (part i incrementalMwh)
       row i =
-          sumℤ-same _ (λ j. share h ns x (part i directMwh) j +ℤ share h ns x (part i incrementalMwh) j) (h .ndeliveries) (λ j l. one i j (member ns x j) refl) ∙
-          sumℤ-add (share h ns x (part i directMwh)) (share h ns x (part i incrementalMwh)) (h .ndeliveries) ∙
-          rw (shares-sum h ns x (part i directMwh) (g .members), shares-sum h ns x (part i incrementalMwh) (g .members))
+          sumℤ-same _ (λ j. share h ns (internal x) (part i directMwh) j +ℤ share h ns (internal x) (part i incrementalMwh) j) (h .ndeliveries) (λ j l. one i j (member ns (internal x) j) refl) ∙
+          sumℤ-add (share h ns (internal x) (part i directMwh)) (share h ns (internal x) (part i incrementalMwh)) (h .ndeliveries) ∙
+          rw (shares-sum h ns (internal x) (part i directMwh) (g .members), shares-sum h ns (internal x) (part i incrementalMwh) (g .members))
 
   -- a group whose cells are kept
-  kept-net : (y : ℕ) (cell cell′ : Cells) → ((j i : ℕ) (item : Item) → member ns y j ≡ true → cell′ j i item ≡ cell j i item) → groupMwh h ns y cell′ ≡ groupMwh h ns y cell
+  kept-net : (y : InternalSequence) (cell cell′ : Cells) → ((j i : ℕ) (item : Item) → member ns y j ≡ true → cell′ j i item ≡ cell j i item) → groupMwh h ns y cell′ ≡ groupMwh h ns y cell
   kept-net y cell cell′ same =
       sumℤ-same _ _ (h .nsources) (λ i l. sumℤ-same (λ j. if member ns y j then cell′ j i directMwh +ℤ cell′ j i incrementalMwh else pos 0) (λ j. if member ns y j then cell j i directMwh +ℤ cell j i incrementalMwh else pos 0) (h .ndeliveries)
       (λ j k. one i j (member ns y j) refl))
@@ -94,14 +95,14 @@ module _ (h : Hour) (ns : List InternalSequence) where
   grouped-nets x p q b g nets y l m c = elim (ℕ-discrete y x) [
     | yes e ↦ rw e (own-net x p q b g)
     | no e ↦ rw (g .is)
-        (kept-net y (p .cells) (shared h ns x (p .states) (afterLines h ns x p) (g .us) (p .cells))
-        (λ j i item z. shared-keeps h ns x (p .states) (afterLines h ns x p) (g .us) (p .cells) j i item (λ w. e (sym (eqb-true (internalAt ns j) y z) ∙ w))) ∙ nets y (omega arith) m c)
+        (kept-net (internal y) (p .cells) (shared h ns (internal x) (p .states) (afterLines h ns x p) (g .us) (p .cells))
+        (λ j i item z. shared-keeps h ns (internal x) (p .states) (afterLines h ns x p) (g .us) (p .cells) j i item (λ w. e (sym (eqb-true (internalAt ns j .0) y z) ∙ w))) ∙ nets y (omega arith) m c)
   ]
 
   -- a number that no delivery has
-  none-nets : (x : ℕ) (p : Progress) → counted ns x (h .ndeliveries) ≡ 0 → Nets (suc x) p → Nets x p
+  none-nets : (x : ℕ) (p : Progress) → counted ns (internal x) (h .ndeliveries) ≡ 0 → Nets (suc x) p → Nets x p
   none-nets x p z nets y l m c = elim (ℕ-discrete y x) [
-    | yes e ↦ absurd (omega (arith, ap (λ (k : ℕ). counted ns k (h .ndeliveries)) e))
+    | yes e ↦ absurd (omega (arith, ap (λ (k : ℕ). counted ns (internal k) (h .ndeliveries)) e))
     | no e ↦ nets y (omega arith) m c
   ]
 
@@ -111,7 +112,7 @@ module _ (h : Hour) (ns : List InternalSequence) where
       (λ x p q b s. (grouped-balanced h ns x p q (b .0) s, grouped-nets x p q (b .0) s (b .1)))
 
 -- each group's cells add up to its total
-pub answer-net : (h : Hour) → Given h → (xs : List ℤ) → answer h ≡ accepted xs → (x : ℕ) → x < 1000 → 0 < counted (numbers h) x (h .ndeliveries) →
+pub answer-net : (h : Hour) → Given h → (xs : List ℤ) → answer h ≡ accepted xs → (x : InternalSequence) → x .0 < 1000 → 0 < counted (numbers h) x (h .ndeliveries) →
     sumℤ (λ i. sumℤ (λ j. if member (numbers h) x j then cellAt xs (pairPlace h j i 0) +ℤ cellAt xs (pairPlace h j i 1) else pos 0) (h .ndeliveries)) (h .nsources) ≡ pos (scheduled h (numbers h) x (h .ndeliveries))
 unfolding reconstructed
 answer-net h g xs e x l c =
@@ -122,4 +123,4 @@ answer-net h g xs e x l c =
     (λ j. if member (numbers h) x j then cellAt (cellsOf h p) (pairPlace h j i 0) +ℤ cellAt (cellsOf h p) (pairPlace h j i 1) else pos 0)
     (λ j. if member (numbers h) x j then p .cells j i directMwh +ℤ p .cells j i incrementalMwh else pos 0) (h .ndeliveries)
     (λ j k. rw (pair-at h p j i 0 k m (omega arith), pair-at h p j i 1 k m (omega arith)))) ∙
-    groups-nets h (numbers h) g 1000 (omega arith) p (a .run) .1 x (omega arith) l c)
+    groups-nets h (numbers h) g 1000 (omega arith) p (a .run) .1 (x .0) (omega arith) l c)

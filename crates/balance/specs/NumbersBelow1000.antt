@@ -114,7 +114,7 @@ module _ (h : Hour) where
   numbers-length = length-map (take (h .ndeliveries) (h .deliveries)) numberOf ∙ length-take (h .ndeliveries) (h .deliveries)
 
   -- every number of an hour's deliveries
-  pub numbers-below : ((j : ℕ) → getD (h .deliveries) j noDelivery .sequence .0 ≤ 99) → (j : ℕ) → internalAt (numbers h) j < 1000
+  pub numbers-below : ((j : ℕ) → getD (h .deliveries) j noDelivery .sequence .0 ≤ 99) → (j : ℕ) → internalAt (numbers h) j .0 < 1000
   numbers-below small j = elim (decLt j (min (h .ndeliveries) (length (h .deliveries)))) [
     | yes l ↦ omega (arith, ap (λ (x : InternalSequence). x .0) (numbers-at j (omega arith) (omega arith)), numbered-below (h .deliveries) small (h .ndeliveries) j)
     | no l ↦ omega (arith, ap (λ (x : InternalSequence). x .0) (List·getD-eq-default (numbers h) noNumber {n = j} (omega (arith, numbers-length))))

@@ -17,7 +17,7 @@ use Rattle.rules.specs.Words.{if_then_else_, sumTo}
 use Rattle.rules.specs.declared.Hour.{Hour}
 use Rattle.rules.specs.declared.InternalSequence.{InternalSequence}
 
-module _ (h : Hour) (ns : List InternalSequence) (x : ℕ) where
+module _ (h : Hour) (ns : List InternalSequence) (x : InternalSequence) where
   -- what the members among the first j have
   unfoldable shareTo : ℕ → ℕ → ℕ
   shareTo size j = upTo (scheduled h ns x (h .ndeliveries)) size (counted ns x j) (scheduled h ns x j)

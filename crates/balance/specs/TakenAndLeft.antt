@@ -8,7 +8,7 @@ use Rattle.laws.specs.Signed.{value, taken-left}
 use Rattle.merit.specs.ChangedFromB.{Starts, changed-over}
 use Rattle.merit.specs.LevelNeverBelowB.{Sound, paid-most, Took, took-value, Moved, moved-sound}
 use Rattle.rules.specs.Group.{level, changed, opened, directMwh, incrementalMwh, directCost, incrementalCost, amount, openCost}
-use Rattle.rules.specs.Units.{cost, generation}
+use Rattle.rules.specs.Units.{cost, generation, generationCost}
 use Rattle.rules.specs.declared.Plant.{Plant}
 use Rattle.rules.specs.declared.Running.{Running}
 
@@ -20,7 +20,7 @@ pub open-worth : (s : Running) → Sound s → openCost s ≡ worth s
 open-worth s g = let e : s .d + s .v ≡ level s = omega arith in omega (arith, g .paid, ap (changed s) e)
 
 -- at first, the cost of the source's generation
-pub opened-worth : (p : Plant) → Starts p → worth (opened p) ≡ cost p (generation p)
+pub opened-worth : (p : Plant) → Starts p → worth (opened p) ≡ generationCost p
 opened-worth p z =
     let e : level (opened p) ≡ generation p = omega arith in
     let f : changed (opened p) (level (opened p)) ≡ cost p (level (opened p)) = changed-over (opened p) z (level (opened p)) (omega arith) in

@@ -4,8 +4,8 @@ use Prim.Native.Nat.{ℕ}
 use lib.IntN.{ℤ}
 use lib.ListN.{length}
 use Rattle.codes.specs.Codes.{codeOf}
-use Rattle.reconstruct.specs.declared.Reconstructed.{Reconstructed}
-use Rattle.reconstruct.specs.declared.Reconstructed.the-variants.{Cells, Refused}
+use Rattle.rules.specs.declared.Written.{Written}
+use Rattle.rules.specs.declared.Written.the-variants.{Count, Refused}
 use Rattle.rules.specs.Calls.{reconstruction}
 use Rattle.rules.specs.Reading.{reading}
 use Rattle.rules.specs.Refusals.{Outcome, accepted, refused, andThen}
@@ -32,6 +32,6 @@ abbrev pub writtenCode : {A : Type 0} → Outcome (List A) → ℕ
 writtenCode (accepted xs) = length xs
 writtenCode (refused r) = codeOf r
 
-abbrev pub answerCode : Reconstructed → ℕ
-answerCode (Cells n) = n
+abbrev pub answerCode : Written → ℕ
+answerCode (Count n) = n
 answerCode (Refused r) = codeOf r

@@ -3,25 +3,20 @@
 mod linked;
 
 ghost use mathlib.Core.Path.{_≡_};
+ghost use Prim.Native.Nat.{_+_};
 ghost use lib.ListN.{length};
-ghost use Rattle.rules.specs.Answers.{curveAnswer};
+ghost use denote.Ref.{ptr};
+ghost use Rattle.rules.specs.Answers.{verdictOf, writtenOf, curveAnswer, costAnswer};
 ghost use Rattle.rules.specs.Calls.{writing, reconstruction, reporting, leaves, sourcePart, deliveryPart};
 ghost use Rattle.rules.specs.Reading.{reading};
 ghost use Rattle.rules.specs.Refusals.{numberOf, placeOf};
 ghost use Rattle.rules.specs.Units.{curveMade, costAsked};
 ghost use Rattle.rules.specs.Writing as given;
-ghost use Rattle.hour.specs.Tried.{verdictOf};
 ghost use Rattle.deck.specs.Answers.{readAnswer};
-ghost use Rattle.writer.specs.Answers.{writtenOf};
-ghost use Rattle.reconstruct.specs.Answers.{reconstructedOf};
-ghost use Rattle.curve.specs.Answers.{costAnswer};
-ghost use Rattle.printout.specs.Printing.{printedOf};
-pub use curve::CostAnswer;
+ghost use Rattle.places.specs.Places.{sourceStart, deliveryStart};
 pub use deck::ReadHour;
-pub use hour::Verdict;
-pub use printout::Printed;
-pub use reconstruct::Reconstructed;
 pub use rules::Basis;
+pub use rules::CostAnswer;
 pub use rules::CurveAnswer;
 pub use rules::Delivery;
 pub use rules::Direct;
@@ -34,7 +29,8 @@ pub use rules::Plant;
 pub use rules::Refusal;
 pub use rules::Source;
 pub use rules::Unit;
-pub use writer::Written;
+pub use rules::Verdict;
+pub use rules::Written;
 
 // Decks.
 
@@ -52,23 +48,25 @@ pub fn check(s: &[u8]) -> Verdict
     deck::check_deck(s)
 }
 
-// The label of source i, as the part of the deck at the label's own bytes between the quotes, escapes unread.
+// The label of source i, as the part of the deck at the label's own bytes between the quotes, escapes unread; an empty one at the deck's start where there is none.
 pub fn source_label<'a>(s: &'a [u8], i: usize) -> &'a [u8]
-    ensures { λ r. ⌜ now r ≡ sourcePart (now (s .entry)) i ⌝ }
+    ensures bytes { λ r. ⌜ now r ≡ sourcePart (now (s .entry)) i ⌝ }
+    ensures place { λ r. ⌜ ptr r ≡ (ptr (s .entry) .0, sourceStart (now (s .entry)) i + ptr (s .entry) .1) ⌝ }
 {
-    deck::source_label(s, i)
+    places::source_label(s, i)
 }
 
 // The same of delivery j.
 pub fn delivery_label<'a>(s: &'a [u8], j: usize) -> &'a [u8]
-    ensures { λ r. ⌜ now r ≡ deliveryPart (now (s .entry)) j ⌝ }
+    ensures bytes { λ r. ⌜ now r ≡ deliveryPart (now (s .entry)) j ⌝ }
+    ensures place { λ r. ⌜ ptr r ≡ (ptr (s .entry) .0, deliveryStart (now (s .entry)) j + ptr (s .entry) .1) ⌝ }
 {
-    deck::delivery_label(s, j)
+    places::delivery_label(s, j)
 }
 
 // The deck's report as text into lent bytes: 14 where it does not fit. A deck that is refused has a report too.
-pub fn report(s: &[u8], out: &mut [u8]) -> Printed
-    ensures outcome { λ r. ⌜ r ≡ printedOf (reporting (now (s .entry)) (length (now (out .entry)))) ⌝ }
+pub fn report(s: &[u8], out: &mut [u8]) -> Written
+    ensures outcome { λ r. ⌜ r ≡ writtenOf (reporting (now (s .entry)) (length (now (out .entry)))) ⌝ }
     ensures bytes { λ _. ⌜ now (out .exit) ≡ leaves (reporting (now (s .entry)) (length (now (out .entry)))) (now (out .entry)) ⌝ }
 {
     printout::report(s, out)
@@ -92,16 +90,16 @@ pub fn write(h: Hour, out: &mut [u8]) -> Written
 }
 
 // The hour's cells into lent ones, by the plain rule, one MWh at a time: 15, then 14, then the first group that meets 12 or 13.
-pub fn plain(h: Hour, out: &mut [i64]) -> Reconstructed
-    ensures outcome { λ r. ⌜ r ≡ reconstructedOf (reconstruction h (length (now (out .entry)))) ⌝ }
+pub fn plain(h: Hour, out: &mut [i64]) -> Written
+    ensures outcome { λ r. ⌜ r ≡ writtenOf (reconstruction h (length (now (out .entry)))) ⌝ }
     ensures cells { λ _. ⌜ now (out .exit) ≡ leaves (reconstruction h (length (now (out .entry)))) (now (out .entry)) ⌝ }
 {
     reconstruct::plain(h, out)
 }
 
 // The same, by a search for the price.
-pub fn price(h: Hour, out: &mut [i64]) -> Reconstructed
-    ensures outcome { λ r. ⌜ r ≡ reconstructedOf (reconstruction h (length (now (out .entry)))) ⌝ }
+pub fn price(h: Hour, out: &mut [i64]) -> Written
+    ensures outcome { λ r. ⌜ r ≡ writtenOf (reconstruction h (length (now (out .entry)))) ⌝ }
     ensures cells { λ _. ⌜ now (out .exit) ≡ leaves (reconstruction h (length (now (out .entry)))) (now (out .entry)) ⌝ }
 {
     reconstruct::price(h, out)

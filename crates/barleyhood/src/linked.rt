@@ -7,10 +7,8 @@ ghost use Rattle.rules.specs.Calls.{reporting, leaves};
 ghost use Rattle.rules.specs.Reading.{reading};
 ghost use Rattle.barleyhood.specs.Linked.{checkCode, sourcesCode, deliveriesCode, cellsOfDeck, writtenCode, answerCode};
 ghost use Rattle.places.specs.Places.{sourcePlace, deliveryPlace};
-use hour::Verdict;
-use printout::Printed;
-use reconstruct::Reconstructed;
-use rules::Refusal;
+use rules::Verdict;
+use rules::Written;
 
 // 0 for a deck that is accepted.
 #[no_mangle]
@@ -51,12 +49,13 @@ pub extern "C" fn barleyhood_deliveries(s: &[u8]) -> u64
     }
 }
 
-fn cells_code(x: Reconstructed) -> u64
+// How many were written, or the refusal's code.
+fn written_code(x: Written) -> u64
     ensures { λ r. ⌜ r ≡ answerCode x ⌝ }
 {
     match x {
-        Reconstructed::Cells(n) => n as u64,
-        Reconstructed::Refused(r) => codes::code_of(r),
+        Written::Count(n) => n as u64,
+        Written::Refused(r) => codes::code_of(r),
     }
 }
 
@@ -70,7 +69,7 @@ pub extern "C" fn barleyhood_price(s: &[u8], out: &mut [i64]) -> u64
     let v = x.verdict;
     let h = x.hour;
     match v {
-        Verdict::Accepted => cells_code(reconstruct::price(h, out)),
+        Verdict::Accepted => written_code(reconstruct::price(h, out)),
         Verdict::Refused(r) => codes::code_of(r),
     }
 }
@@ -85,7 +84,7 @@ pub extern "C" fn barleyhood_plain(s: &[u8], out: &mut [i64]) -> u64
     let v = x.verdict;
     let h = x.hour;
     match v {
-        Verdict::Accepted => cells_code(reconstruct::plain(h, out)),
+        Verdict::Accepted => written_code(reconstruct::plain(h, out)),
         Verdict::Refused(r) => codes::code_of(r),
     }
 }
@@ -96,10 +95,7 @@ pub extern "C" fn barleyhood_report(s: &[u8], out: &mut [u8]) -> u64
     ensures code { λ r. ⌜ r ≡ writtenCode (reporting (now (s .entry)) (length (now (out .entry)))) ⌝ }
     ensures bytes { λ _. ⌜ now (out .exit) ≡ leaves (reporting (now (s .entry)) (length (now (out .entry)))) (now (out .entry)) ⌝ }
 {
-    match printout::report(s, out) {
-        Printed::Bytes(n) => n as u64,
-        Printed::Short => codes::code_of(Refusal::Short),
-    }
+    written_code(printout::report(s, out))
 }
 
 // Where the own bytes of source i's label stand in the deck.

@@ -1,15 +1,15 @@
 // Many hours in one run: for each deck a line `deck N` and its N bytes on standard input, and for each a line `report N` and the N bytes of its report
 // on standard output. A frame that is not of its form ends the run with a line `frame` and its number from 1.
-use printout::Printed;
+use rules::Written;
 
 fn put_report(s: &[u8]) {
     let mut out = [0u8; 131072];
     match printout::report(s, &mut out) {
-        Printed::Bytes(n) => {
+        Written::Count(n) => {
             frames::put_line(b"report ", n as u64);
             frames::put_first(&out, n);
         }
-        Printed::Short => frames::put_line(b"report 13\nrefused 14 ", 0),
+        Written::Refused(_) => frames::put_line(b"report 13\nrefused 14 ", 0),
     }
 }
 

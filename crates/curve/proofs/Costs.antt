@@ -1,9 +1,10 @@
 -- W and W as changed by the tests met.
 use mathlib.Core.Bool.{true, false}
-use mathlib.Core.Path.{_≡_}
+use mathlib.Core.Path.{_≡_, sym, _∙_}
 use Prim.Native.Nat.{ℕ, _*_, _/_, _≤_, _<_}
 use native.Mathlib.Omega.{arith}
 use borrow.Author.Tests.{le-leb, lt-leb}
+use Rattle.merit.specs.ChangedFromB.{changed-is}
 use Rattle.merit.specs.NumbersStaySmall.{CurveSmall, cost-small}
 use Rattle.rules.specs.Group.{changed}
 use Rattle.rules.specs.Units.{heat, curveCost, cost}
@@ -37,5 +38,4 @@ module _ (s : Running) (m : ℕ) where
   above-b e h = rw (e, lt-leb m (s .b) h)
 
   pub to-b : s .based ≡ true → m ≤ s .b → cost (s .plant) (s .b) * m / s .b ≡ changed s m
-  unfolding changed
-  to-b e h = rw (e, le-leb m (s .b) h)
+  to-b e h = sym (changed-is s m ∙ rw (e, le-leb m (s .b) h))

@@ -2,22 +2,16 @@
 // The contracts cite rules' Units and Group, merit's NumbersStaySmall for what fits, and specs/ for the enums.
 ghost use mathlib.Core.Path.{_≡_};
 ghost use Prim.Native.Nat.{_+_, _-_, _*_, _/_, _≤_, _<_, max};
+ghost use Rattle.rules.specs.Answers.{costAnswer};
 ghost use Rattle.rules.specs.Units.{heat, curveCost, cost, movable, normalLow, costAsked};
 ghost use Rattle.rules.specs.Group.{level, changed, dearerAverage, openCost, room, headroom, withOpen, lowered as loweredBy, raised as raisedBy};
 ghost use Rattle.merit.specs.NumbersStaySmall.{CurveSmall, PlantSmall, Small};
-ghost use Rattle.curve.specs.Answers.{costAnswer};
 ghost use Rattle.curve.specs.Rungs.{rungOf, lowAt};
-use rules::CurveAnswer;
+use rules::CostAnswer;
 use rules::HeatCurve;
 use rules::Plant;
 use rules::Refusal;
 use rules::Running;
-
-// A cost in grains, or why not.
-pub enum CostAnswer {
-    Cost(u64),
-    Refused(Refusal),
-}
 
 // The ladder's steps.
 pub enum Rung {
@@ -60,21 +54,28 @@ fn part(x: u64, m: u32, y: u32) -> u64
     x * m as u64 / y as u64
 }
 
-// The cost from the curve's start up. The sum is at most 2,385,991,998, the product 10^14.
+// The cost from a curve's start up. The sum is at most 2,385,991,998, the product 10^14.
+fn heat_of(a: u32, b: u32, c: u32, r: u32, m: u32) -> u64
+    requires { ⌜ CurveSmall (record { k = 0; a = a; b = b; c = c; r = r }) × (m ≤ 4000) ⌝ }
+    ensures { λ x. ⌜ (x ≡ heat (record { k = 0; a = a; b = b; c = c; r = r }) m) × (x ≤ 100_000_000_000_000) ⌝ }
+{
+    let l = m as u64;
+    let sum = 2 * a as u64 + 2 * b as u64 * l + c as u64 * l * l;
+    sum * r as u64
+}
+
 fn heat_at(c: HeatCurve, m: u32) -> u64
     requires { ⌜ CurveSmall c × (m ≤ 4000) ⌝ }
     ensures { λ r. ⌜ (r ≡ heat c m) × (r ≤ 100_000_000_000_000) ⌝ }
 {
-    let l = m as u64;
-    let sum = 2 * c.a as u64 + 2 * c.b as u64 * l + c.c as u64 * l * l;
-    sum * c.r as u64
+    heat_of(c.a(), c.b(), c.c(), c.r(), m)
 }
 
 pub fn curve_cost(c: HeatCurve, m: u32) -> u64
     requires { ⌜ CurveSmall c × (m ≤ 4000) ⌝ }
     ensures { λ r. ⌜ (r ≡ curveCost c m) × (r ≤ 100_000_000_000_000) ⌝ }
 {
-    let k = c.k;
+    let k = c.k();
     if k <= m {
         return heat_at(c, m);
     }
@@ -160,14 +161,13 @@ pub fn open_cost(s: Running) -> u64
 pub fn cost_asked(c: HeatCurve, m: u32) -> CostAnswer
     ensures { λ r. ⌜ r ≡ costAnswer (costAsked c m) ⌝ }
 {
-    let made = HeatCurve::new(c.k, c.a, c.b, c.c, c.r);
+    if !c.is_inside() {
+        return CostAnswer::Refused(Refusal::Range(0));
+    }
     if MOST_LEVEL < m {
         return CostAnswer::Refused(Refusal::Range(0));
     }
-    match made {
-        CurveAnswer::Made(x) => CostAnswer::Cost(curve_cost(x, m)),
-        CurveAnswer::Refused(r) => CostAnswer::Refused(r),
-    }
+    CostAnswer::Cost(curve_cost(c, m))
 }
 
 fn may_move(p: Plant) -> bool

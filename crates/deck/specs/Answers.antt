@@ -1,16 +1,17 @@
 -- What the deck's readers answer where the rules say what a deck comes to.
-use mathlib.Core.Path.{_≡_, ap, sym}
+use mathlib.Core.Path.{_≡_, refl, ap, sym, _∙_}
 use mathlib.Core.List.{List}
 use Prim.Native.Nat.{ℕ, _≤_}
-use native.Mathlib.Omega.{arith}
 use lib.ListN.{length, getD, replicate}
+use Rattle.rules.specs.Answers.{verdictOf}
 use Rattle.rules.specs.Refusals.{Outcome, accepted, refused}
 use Rattle.rules.specs.Fields.{bytesAt}
 use Rattle.rules.specs.Record.{started}
 use Rattle.rules.specs.Calls.{sourcePartOf, deliveryPartOf}
 use Rattle.rules.specs.declared.Hour.{Hour}
 use Rattle.rules.specs.declared.Refusal.{Refusal}
-use Rattle.hour.specs.declared.Verdict.the-variants.{Accepted, Refused}
+use Rattle.rules.specs.declared.Verdict.the-variants.{Accepted, Refused}
+use Rattle.laws.specs.Answers.{verdict-accepted, verdict-refused}
 use Rattle.deck.specs.declared.Place.{Place}
 use Rattle.deck.specs.declared.ScannedDeck.{ScannedDeck}
 use Rattle.deck.specs.declared.ReadHour.{ReadHour}
@@ -21,13 +22,20 @@ readAnswer (accepted h) = record { verdict = Accepted; hour = h }
 readAnswer (refused r) = record { verdict = Refused r; hour = started 0 }
 
 -- which outcome an answer tells
+pub verdict-told : (o : Outcome Hour) → readAnswer o .verdict ≡ verdictOf o
+verdict-told (accepted h) = refl
+verdict-told (refused r) = refl
+
+verdict-is : (o : Outcome Hour) (x : ReadHour) → x ≡ readAnswer o → verdictOf o ≡ x .verdict
+verdict-is o x e = sym (ap (λ (y : ReadHour). y .verdict) e ∙ verdict-told o)
+
 pub read-accepted : (o : Outcome Hour) (x : ReadHour) → x ≡ readAnswer o → x .verdict ≡ Accepted → accepted (x .hour) ≡ o
-read-accepted (accepted h) x e p = ap (λ (y : ReadHour). accepted (y .hour)) e
-read-accepted (refused r) x e p = let z : _≡_ {A = ℕ} 0 1 = cc in absurd (omega arith)
+read-accepted o x e p =
+    let a = verdict-accepted o (verdict-is o x e ∙ p) in
+    ap (λ (y : ReadHour). accepted (y .hour)) (e ∙ ap readAnswer (a .1)) ∙ sym (a .1)
 
 pub read-refused : (o : Outcome Hour) (x : ReadHour) (r : Refusal) → x ≡ readAnswer o → x .verdict ≡ Refused r → refused r ≡ o
-read-refused (accepted h) x r e p = let z : _≡_ {A = ℕ} 0 1 = cc in absurd (omega arith)
-read-refused (refused q) x r e p = let k : q ≡ r = cc in ap refused (sym k)
+read-refused o x r e p = sym (verdict-refused o r (verdict-is o x e ∙ p))
 
 -- Places.
 

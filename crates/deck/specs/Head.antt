@@ -1,23 +1,22 @@
 -- The first line, and 1 before it: what reading a deck comes to by them.
 use mathlib.Core.Path.{_≡_, refl, ap, sym, _∙_}
-use mathlib.Core.Bool.{Bool, true, false}
+use mathlib.Core.Bool.{Bool, true, false, not}
 use mathlib.Core.List.{List}
 use mathlib.Core.Option.{Option, none, some}
-use Prim.Native.Nat.{ℕ, _<_, _≤_}
+use Prim.Native.Nat.{ℕ, _+_, _<_, _≤_}
 use native.Mathlib.Omega.{arith}
-use lib.Dec.{eqb}
+use lib.Dec.{ltb, eqb}
 use lib.ListN.{length}
 use borrow.Author.Tests.{lt-ltb, le-ltb, eqb-true}
 use Rattle.rules.specs.Words.{if_then_else_}
-use Rattle.rules.specs.Refusals.{Outcome, refused, andThen}
+use Rattle.rules.specs.Refusals.{accepted, refused, refuse, andThen}
 use Rattle.rules.specs.Fields as fields
 use Rattle.rules.specs.Fields.{Field, got, malformed, onField, byte, byteAt, Chars}
 use Rattle.rules.specs.Lines as lines
 use Rattle.rules.specs.Lines.{Letter, H, U, P, F, T, D, E, Fields, fieldsOf, seen, ranged, letterOf, line, placesAt, lineFrom, lineAt}
 use Rattle.rules.specs.Record.{started}
 use Rattle.rules.specs.Reading as reading-of
-use Rattle.rules.specs.Reading.{headed, onLine, linesFrom, reading}
-use Rattle.rules.specs.declared.Hour.{Hour}
+use Rattle.rules.specs.Reading.{headed, headedAs, onLine, linesFrom, reading}
 use Rattle.rules.specs.declared.Refusal.the-variants.{TooLong, Form, Range}
 use Rattle.text.specs.Answers.{cut, stepOf}
 use Rattle.text.specs.declared.Step.the-variants.{At, Missing}
@@ -26,32 +25,61 @@ use Rattle.lines.specs.Cut.{ranged-cut, cut-ranged, cutFields, found, not-found
 use Rattle.lines.specs.declared.HeadLine.the-variants.{Read as HeadRead, Malformed as NoHead}
 use Rattle.ranges.specs.Inside.{lossesInside}
 use Rattle.ranges.specs.RangedIsInside.{losses-inside}
+use Rattle.rules.specs.declared.Verdict.the-variants.{Accepted}
 use Rattle.deck.specs.Turns.{line-got, line-malformed}
+use Rattle.deck.specs.FirstLine.{headRefused, headTaken, headLined, headStep, rowsAfter}
 
-pub too-long : (s : List ℕ) → 8192 < length s → reading s ≡ refused TooLong
-unfolding reading-of.reading
-too-long s l = rw (lt-ltb 8192 (length s) l)
+-- 1, and what comes after it.
 
-module _ (s : List ℕ) (short : length s ≤ 8192) where
-  -- what comes of the first line
-  first : Field lines.Line → Outcome Hour
-  first x = onLine x (Form 1) λ l next. andThen (headed l) λ h. linesFrom (length s) s h next
+pub too-long : (s : List ℕ) (at : ℕ) → 8192 < length s → headStep s at ≡ headRefused TooLong
+too-long s at l = rw (lt-ltb 8192 (length s) l)
 
-  by-first : reading s ≡ first (lineAt s 0)
-  unfolding reading-of.reading first
-  by-first = rw (le-ltb 8192 (length s) short)
+-- from the place that the first line tells, the lines after it are all the others
+pub rows-after-head : (s : List ℕ) → rowsAfter s (headStep s 0 .next) (headStep s 0) ≡ reading s
+unfolding reading-of.headed reading-of.reading started
+rows-after-head s = by-length (ltb 8192 (length s))
+  where
+    ranged-or-not : (z : Bool) (losses next : ℕ)
+        → let o = refuse (not z) (Range 1) (accepted (started losses)) in rowsAfter s (headTaken o next .next) (headTaken o next) ≡ andThen o λ h. linesFrom (length s) s h next
+    ranged-or-not true losses next = refl
+    ranged-or-not false losses next = refl
+
+    by-letter : (l : Letter) (v : Fields Chars (fieldsOf l)) (next : ℕ)
+        → rowsAfter s (headTaken (headedAs l v) next .next) (headTaken (headedAs l v) next) ≡ andThen (headedAs l v) λ h. linesFrom (length s) s h next
+    by-letter H v next = ranged-or-not (ranged (fieldsOf H) v) (v .0) next
+    by-letter U v next = refl
+    by-letter P v next = refl
+    by-letter F v next = refl
+    by-letter T v next = refl
+    by-letter D v next = refl
+    by-letter E v next = refl
+
+    by-line : (x : Field lines.Line) → rowsAfter s (headLined x .next) (headLined x) ≡ onLine x (Form 1) λ l next. andThen (headed l) λ h. linesFrom (length s) s h next
+    by-line (got l next) = by-letter (l .letter) (l .fields) next
+    by-line malformed = refl
+
+    by-length : (z : Bool)
+        → let x = if z then headRefused TooLong else headLined (lineAt s 0) in
+        rowsAfter s (x .next) x ≡ refuse z TooLong (onLine (lineAt s 0) (Form 1) λ l next. andThen (headed l) λ h. linesFrom (length s) s h next)
+    by-length true = refl
+    by-length false = by-line (lineAt s 0)
+
+-- The first line, which stands at a place.
+
+module _ (s : List ℕ) (at : ℕ) (short : length s ≤ 8192) where
+  not-too-long : headStep s at ≡ headLined (lineAt s at)
+  not-too-long = rw (le-ltb 8192 (length s) short)
 
   -- another letter, or none
-  first-letter : (l : Letter) → ((w : Fields Chars (fieldsOf l)) → headed (line l w) ≡ refused (Form 1)) → first (lineFrom s 1 (some l)) ≡ refused (Form 1)
-  unfolding first
-  first-letter l h = go (placesAt s 1 l)
+  first-letter : (l : Letter) → ((w : Fields Chars (fieldsOf l)) → headed (line l w) ≡ refused (Form 1)) → headLined (lineFrom s (at + 1) (some l)) ≡ headRefused (Form 1)
+  first-letter l h = go (placesAt s (at + 1) l)
     where
-      go : (x : Field (Fields fields.Place (fieldsOf l))) → first (onField x λ v next. got (line l (seen (fieldsOf l) s v)) next) ≡ refused (Form 1)
+      go : (x : Field (Fields fields.Place (fieldsOf l))) → headLined (onField x λ v next. got (line l (seen (fieldsOf l) s v)) next) ≡ headRefused (Form 1)
       go (got v next) = rw (h (seen (fieldsOf l) s v))
       go malformed = refl
 
-  other-letter : (x : Option Letter) → (x ≡ some H → ⊥) → first (lineFrom s 1 x) ≡ refused (Form 1)
-  unfolding first reading-of.headed
+  other-letter : (x : Option Letter) → (x ≡ some H → ⊥) → headLined (lineFrom s (at + 1) x) ≡ headRefused (Form 1)
+  unfolding reading-of.headed
   other-letter none h = refl
   other-letter (some H) h = absurd (h refl)
   other-letter (some U) h = first-letter U (λ w. refl)
@@ -75,36 +103,35 @@ module _ (s : List ℕ) (short : length s ≤ 8192) where
       go false false false false false true q = let z : _≡_ {A = ℕ} 0 1 = cc in omega arith
       go false false false false false false q = let z : _≡_ {A = ℕ} 0 1 = cc in omega arith
 
-  pub no-head : stepOf (byteAt s 0 72) ≡ Missing → reading s ≡ refused (Form 1)
+  pub no-head : stepOf (byteAt s at 72) ≡ Missing → headStep s at ≡ headRefused (Form 1)
   unfolding fields.byteAt lines.lineAt
-  no-head e = by-first ∙ go (eqb (byte s 0) 72) refl e
+  no-head e = not-too-long ∙ go (eqb (byte s at) 72) refl e
     where
-      go : (z : Bool) → eqb (byte s 0) 72 ≡ z → stepOf (if z then got tt 1 else malformed) ≡ Missing → first (lineFrom s 1 (letterOf (byte s 0))) ≡ refused (Form 1)
+      go : (z : Bool) → eqb (byte s at) 72 ≡ z → stepOf (if z then got tt (at + 1) else malformed) ≡ Missing → headLined (lineFrom s (at + 1) (letterOf (byte s at))) ≡ headRefused (Form 1)
       go true ze e = let z : _≡_ {A = ℕ} 0 1 = cc in absurd (omega arith)
-      go false ze e = other-letter (letterOf (byte s 0)) (not-head (byte s 0) ze)
+      go false ze e = other-letter (letterOf (byte s at)) (not-head (byte s at) ze)
 
   -- the letter H
-  module _ (p : ℕ) (e : stepOf (byteAt s 0 72) ≡ At p) where
-    lettered : (letterOf (byte s 0) ≡ some H) × (1 ≡ p)
+  module _ (p : ℕ) (e : stepOf (byteAt s at 72) ≡ At p) where
+    lettered : (letterOf (byte s at) ≡ some H) × (at + 1 ≡ p)
     unfolding fields.byteAt lines.letterOf
-    lettered = go (eqb (byte s 0) 72) refl e
+    lettered = go (eqb (byte s at) 72) refl e
       where
-        go : (z : Bool) → eqb (byte s 0) 72 ≡ z → stepOf (if z then got tt 1 else malformed) ≡ At p → (letterOf (byte s 0) ≡ some H) × (1 ≡ p)
-        go true ze e = (ap letterOf (eqb-true (byte s 0) 72 ze), cc)
+        go : (z : Bool) → eqb (byte s at) 72 ≡ z → stepOf (if z then got tt (at + 1) else malformed) ≡ At p → (letterOf (byte s at) ≡ some H) × (at + 1 ≡ p)
+        go true ze e = (ap letterOf (eqb-true (byte s at) 72 ze), cc)
         go false ze e = let z : _≡_ {A = ℕ} 0 1 = cc in absurd (omega arith)
 
-    pub head-malformed : headLine (placesAt s p H) ≡ NoHead → reading s ≡ refused (Form 1)
-    unfolding first
+    pub head-malformed : headLine (placesAt s p H) ≡ NoHead → headStep s at ≡ headRefused (Form 1)
     head-malformed k =
         let q = lettered in
         let m = not-found headLine (placesAt s p H) NoHead (λ v next e. let z : _≡_ {A = ℕ} 0 1 = cc in omega arith) k in
-        by-first ∙ rw (line-malformed s 0 H (q .0) (ap (λ (n : ℕ). placesAt s n H) (q .1) ∙ m))
+        not-too-long ∙ rw (line-malformed s at H (q .0) (ap (λ (n : ℕ). placesAt s n H) (q .1) ∙ m))
 
     module _ (losses next : ℕ) (k : headLine (placesAt s p H) ≡ HeadRead losses next) where
       -- the line, and its number cut
       record HeadLined : Type 0 where
         fields : Fields fields.Place (fieldsOf H)
-        is : lineAt s 0 ≡ got (line H (seen (fieldsOf H) s fields)) next
+        is : lineAt s at ≡ got (line H (seen (fieldsOf H) s fields)) next
         cuts : cut (fields .0) ≡ losses
 
       lined : HeadLined
@@ -115,7 +142,7 @@ module _ (s : List ℕ) (short : length s ≤ 8192) where
           let n : f .next ≡ next = cc in
           record {
             fields = f .fields;
-            is = line-got s 0 H (q .0) (f .fields) next (ap (λ (n : ℕ). placesAt s n H) (q .1) ∙ f .is ∙ ap (got (f .fields)) n);
+            is = line-got s at H (q .0) (f .fields) next (ap (λ (n : ℕ). placesAt s n H) (q .1) ∙ f .is ∙ ap (got (f .fields)) n);
             cuts = cc;
           }
 
@@ -124,12 +151,12 @@ module _ (s : List ℕ) (short : length s ≤ 8192) where
       in-range =
           sym (ranged-cut H s (lined .fields)) ∙ losses-inside (seen (fieldsOf H) s (cutFields (fieldsOf H) (lined .fields))) ∙ ap lossesInside (lined .cuts)
 
-      pub head-outside : lossesInside losses ≡ false → reading s ≡ refused (Range 1)
-      unfolding first reading-of.headed
-      head-outside r = by-first ∙ rw (lined .is, in-range ∙ r)
+      pub head-outside : lossesInside losses ≡ false → headStep s at ≡ headRefused (Range 1)
+      unfolding reading-of.headed
+      head-outside r = not-too-long ∙ rw (lined .is, in-range ∙ r)
 
-      pub head-started : lossesInside losses ≡ true → reading s ≡ linesFrom (length s) s (started losses) next
-      unfolding first reading-of.headed lines.seen
+      pub head-started : lossesInside losses ≡ true → headStep s at ≡ record { verdict = Accepted; losses = losses; next = next }
+      unfolding reading-of.headed lines.seen started
       head-started r =
           let same : lined .fields .0 ≡ losses = sym (ap (λ (v : Fields fields.Place (fieldsOf H)). v .0) (cut-ranged H s (lined .fields) (in-range ∙ r))) ∙ lined .cuts in
-          by-first ∙ rw (lined .is, in-range ∙ r, same)
+          not-too-long ∙ rw (lined .is, in-range ∙ r, same)

@@ -6,7 +6,7 @@ use native.Mathlib.Omega.{arith}
 use Rattle.rules.specs.Fields.{Field, got, malformed, Place}
 use Rattle.rules.specs.Lines.{U, P, F, T, D, placesAt}
 use Rattle.rules.specs.declared.Basis.{Basis}
-use Rattle.rules.specs.declared.Unit as declared
+use Rattle.ranges.specs.declared.UnitNumbers.{UnitNumbers}
 use Rattle.lines.specs.Answers.{unitLine, purchaseLine, fixedLine, deliveryLine, directLine}
 use Rattle.lines.specs.Cut.{found, LabelStands, line-stands}
 use Rattle.lines.specs.declared.UnitLine.the-variants.{Read as UnitRead}
@@ -28,9 +28,9 @@ module _ (s : List ℕ) (at : ℕ) where
       let x = found answer f r not e in
       subst (LabelStands s) (same (x .fields) (x .next) (x .says)) (stands (x .fields) (x .next) (x .is))
 
-  pub unit-told : (u : declared.Unit) (from upto next : ℕ) → unitLine (placesAt s at U) ≡ UnitRead u from upto next → LabelStands s (place from upto)
-  unit-told u from upto next =
-      told unitLine (placesAt s at U) (UnitRead u from upto next) (λ v. v .1 .1 .1 .1 .1 .1 .1 .1 .1 .1 .0) (place from upto) (λ e. let z : _≡_ {A = ℕ} 0 1 = cc in omega arith)
+  pub unit-told : (x : UnitNumbers) (from upto next : ℕ) → unitLine (placesAt s at U) ≡ UnitRead x from upto next → LabelStands s (place from upto)
+  unit-told x from upto next =
+      told unitLine (placesAt s at U) (UnitRead x from upto next) (λ v. v .1 .1 .1 .1 .1 .1 .1 .1 .1 .1 .0) (place from upto) (λ e. let z : _≡_ {A = ℕ} 0 1 = cc in omega arith)
       (λ v n e. place-is _ from upto (cc) (cc)) (λ v n e. line-stands s U at v n e .labels .0)
 
   pub purchase-told : (g rate from upto next : ℕ) → purchaseLine (placesAt s at P) ≡ PurchaseRead g rate from upto next → LabelStands s (place from upto)

@@ -4,4 +4,5 @@ pub mod LabelBytes
 pub mod LabelsTold
 pub mod Turns
 pub mod Rows
+pub mod FirstLine
 pub mod Head

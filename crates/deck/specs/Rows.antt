@@ -11,6 +11,7 @@ use lib.ListN.{length, getD, set, replicate, length-set, List·getD-eq-default}
 use lib.Seq.{getD-set-same, getD-set-other}
 use borrow.Author.Tests.{lt-ltb, le-ltb, ltb-true, ltb-false, eqb-true, eq-eqb}
 use Rattle.rules.specs.Words.{if_then_else_}
+use Rattle.rules.specs.Answers.{verdictOf}
 use Rattle.rules.specs.Refusals.{Outcome, accepted, refused}
 use Rattle.rules.specs.Sequences.{noDelivery}
 use Rattle.rules.specs.Fields.{Field, got, malformed, byte, byteAt, escape}
@@ -27,15 +28,16 @@ use Rattle.rules.specs.declared.Direct.{Direct}
 use Rattle.rules.specs.declared.Hour.{Hour}
 use Rattle.rules.specs.declared.Refusal.{Refusal}
 use Rattle.rules.specs.declared.Refusal.the-variants.{Form}
+use Rattle.rules.specs.declared.Verdict.{Verdict}
+use Rattle.rules.specs.declared.Verdict.the-variants.{Accepted, Refused}
+use Rattle.laws.specs.Answers.{verdict-accepted}
 use Rattle.roundtrip.specs.Taken.{finished-passed}
 use Rattle.roundtrip.specs.Loop.{Going, goes-malformed, goes-end, goes-past}
 use Rattle.text.specs.Answers.{stepOf}
-use Rattle.hour.specs.Tried.{verdictOf, Tables, unitHigh, basisCode}
+use Rattle.hour.specs.Tried.{Tables, unitHigh, basisCode}
 use Rattle.hour.specs.Kept.{Kept}
 use Rattle.hour.specs.TablesKept.{noTables, kept-started}
-use Rattle.hour.specs.declared.Verdict.{Verdict}
-use Rattle.hour.specs.declared.Verdict.the-variants.{Accepted, Refused}
-use Rattle.deck.specs.Answers.{readAnswer, nowhere, bytesOf, Holds, Placed, Scanned, refusedScan}
+use Rattle.deck.specs.Answers.{nowhere, bytesOf, Holds, Placed, Scanned, refusedScan}
 use Rattle.deck.specs.Steps.{endVerdict}
 use Rattle.deck.specs.Turns.{line-got, line-malformed, line-none, SourceTurn, DeliveryTurn, DirectTakes}
 use Rattle.deck.specs.declared.Place.{Place}
@@ -201,17 +203,7 @@ module _ (s : List ℕ) (o : Outcome Hour) (h : Hour) (t : Tables) (ps qs : List
 
 -- an hour that passes 10 and 11 is the deck's
 pub finished-accepts : (h : Hour) → verdictOf (finished h) ≡ Accepted → finished h ≡ accepted h
-finished-accepts h = go (finished h) refl
-  where
-    go : (x : Outcome Hour) → finished h ≡ x → verdictOf x ≡ Accepted → x ≡ accepted h
-    go (accepted m) e v = ap accepted (sym (finished-passed h m e .same))
-    go (refused r) e v = let z : _≡_ {A = ℕ} 0 1 = cc in absurd (omega arith)
-
--- What the answer tells.
-
-pub verdict-told : (o : Outcome Hour) → readAnswer o .verdict ≡ verdictOf o
-verdict-told (accepted h) = refl
-verdict-told (refused r) = refl
+finished-accepts h v = let a = verdict-accepted (finished h) v in a .1 ∙ ap accepted (sym (finished-passed h (a .0) (a .1) .same))
 
 -- past the places there is no part
 pub part-past : (s : List ℕ) (part : ℕ → List ℕ) (ps : List Place) (i : ℕ) → Placed s part ps → 32 ≤ i → [] ≡ part i

@@ -1,8 +1,10 @@
 -- What the line at hand comes to, tried on the counts of the hour so far and on the tables kept beside it.
+use mathlib.Core.Bool.{Bool, true, false}
 use mathlib.Core.List.{List}
 use Prim.Native.Nat.{ℕ, _+_}
 use lib.Dec.{eqb}
 use Rattle.rules.specs.Words.{if_then_else_}
+use Rattle.rules.specs.Answers.{verdictOf}
 use Rattle.rules.specs.Fields as fields
 use Rattle.rules.specs.Fields.{charsAt}
 use Rattle.rules.specs.Lines.{U, P, F, placesAt}
@@ -12,6 +14,8 @@ use Rattle.rules.specs.declared.Plant.the-variants.{Unit as IsUnit, Purchase as
 use Rattle.rules.specs.declared.Basis.{Basis}
 use Rattle.rules.specs.declared.Refusal.{Refusal}
 use Rattle.rules.specs.declared.Refusal.the-variants.{Form}
+use Rattle.rules.specs.declared.Verdict.{Verdict}
+use Rattle.rules.specs.declared.Verdict.the-variants.{Accepted, Refused}
 use Rattle.text.specs.declared.Step.{Step}
 use Rattle.text.specs.declared.Step.the-variants.{At, Missing}
 use Rattle.lines.specs.Answers.{unitLine, purchaseLine, fixedLine}
@@ -25,12 +29,12 @@ use Rattle.lines.specs.declared.DeliveryLine.{DeliveryLine}
 use Rattle.lines.specs.declared.DeliveryLine.the-variants.{Read as DeliveryRead, Malformed as NoDelivery}
 use Rattle.lines.specs.declared.DirectLine.{DirectLine}
 use Rattle.lines.specs.declared.DirectLine.the-variants.{Read as DirectRead, Malformed as NoDirect}
-use Rattle.ranges.specs.Inside.{plantInside, deliveryInside, directInside}
+use Rattle.ranges.specs.Inside.{plantInside, judged, deliveryInside, directInside}
+use Rattle.ranges.specs.declared.JudgedUnit.{JudgedUnit}
+use Rattle.ranges.specs.declared.JudgedUnit.the-variants.{Inside, Outside}
 use Rattle.hour.specs.Keys.{keyOf}
-use Rattle.hour.specs.Tried.{verdictOf, entryOf, nextLine, sourceTried, deliveryTried, Tables, directTried}
+use Rattle.hour.specs.Tried.{entryOf, nextLine, sourceTried, deliveryTried, Tables, directTried}
 use Rattle.hour.specs.declared.Counts.{Counts}
-use Rattle.hour.specs.declared.Verdict.{Verdict}
-use Rattle.hour.specs.declared.Verdict.the-variants.{Accepted, Refused}
 use Rattle.hour.specs.declared.Entry.the-variants.{Unnamed}
 use Rattle.deck.specs.declared.SourceStep.{SourceStep}
 use Rattle.deck.specs.declared.DeliveryStep.{DeliveryStep}
@@ -41,11 +45,11 @@ use Rattle.deck.specs.declared.DirectStep.{DirectStep}
 abbrev pub sourceRefused : Refusal → SourceStep
 sourceRefused r = record { verdict = Refused r; entry = blankSource; key = record { lo = 0; hi = 0 }; place = record { from = 0; upto = 0 }; next = 0 }
 
--- a source whose label stands at a place
-unfoldable pub sourceStep : List ℕ → Counts → List ℕ → List ℕ → Plant → fields.Place → ℕ → SourceStep
-sourceStep s n lo hi plant p next =
+-- a source whose numbers are in their ranges or not, and whose label stands at a place
+unfoldable pub sourceStep : List ℕ → Counts → List ℕ → List ℕ → Bool → Plant → fields.Place → ℕ → SourceStep
+sourceStep s n lo hi inRange plant p next =
     record {
-      verdict = verdictOf (sourceTried n (plantInside plant) plant (keyOf (labelOf (charsAt s p))) lo hi);
+      verdict = verdictOf (sourceTried n inRange plant (keyOf (labelOf (charsAt s p))) lo hi);
       entry = record { plant = plant; label = labelOf (charsAt s p) };
       key = keyOf (labelOf (charsAt s p));
       place = record { from = p .from; upto = p .upto };
@@ -53,16 +57,21 @@ sourceStep s n lo hi plant p next =
     }
 
 module _ (s : List ℕ) (n : Counts) (lo hi : List ℕ) where
+  -- 2 or 3 where no unit is made, whatever stands for it
+  abbrev pub judgedStep : JudgedUnit → fields.Place → ℕ → SourceStep
+  judgedStep (Inside u) p next = sourceStep s n lo hi true (IsUnit u) p next
+  judgedStep Outside p next = sourceStep s n lo hi false (IsFixed 0) p next
+
   abbrev pub unitStep : UnitLine → SourceStep
-  unitStep (UnitRead u from upto next) = sourceStep s n lo hi (IsUnit u) (record { from = from; upto = upto }) next
+  unitStep (UnitRead x from upto next) = judgedStep (judged x) (record { from = from; upto = upto }) next
   unitStep NoUnit = sourceRefused (Form (nextLine n))
 
   abbrev pub purchaseStep : PurchaseLine → SourceStep
-  purchaseStep (PurchaseRead g rate from upto next) = sourceStep s n lo hi (IsPurchase g rate) (record { from = from; upto = upto }) next
+  purchaseStep (PurchaseRead g rate from upto next) = sourceStep s n lo hi (plantInside (IsPurchase g rate)) (IsPurchase g rate) (record { from = from; upto = upto }) next
   purchaseStep NoPurchase = sourceRefused (Form (nextLine n))
 
   abbrev pub fixedStep : FixedLine → SourceStep
-  fixedStep (FixedRead g from upto next) = sourceStep s n lo hi (IsFixed g) (record { from = from; upto = upto }) next
+  fixedStep (FixedRead g from upto next) = sourceStep s n lo hi (plantInside (IsFixed g)) (IsFixed g) (record { from = from; upto = upto }) next
   fixedStep NoFixed = sourceRefused (Form (nextLine n))
 
 -- by its letter, U, P or F; any other is no source line

@@ -8,6 +8,8 @@ use native.Mathlib.Omega.{arith}
 use lib.Dec.{eqb}
 use lib.ListN.{getD}
 use borrow.Author.Tests.{eqb-true, ne-eqb}
+use Rattle.rules.specs.Words.{if_then_else_}
+use Rattle.rules.specs.Answers.{verdictOf}
 use Rattle.rules.specs.Refusals.{Outcome, accepted, refused, andThen}
 use Rattle.rules.specs.Fields as fields
 use Rattle.rules.specs.Fields.{Field, got, malformed, byte, escape, Chars, charsAt}
@@ -18,31 +20,36 @@ use Rattle.rules.specs.Reading as reading
 use Rattle.rules.specs.Reading.{lineNumber, taken, sourceTaken, isEnd}
 use Rattle.rules.specs.declared.Label.{Label}
 use Rattle.rules.specs.declared.Plant.{Plant}
+use Rattle.rules.specs.declared.Plant.the-variants.{Unit as IsUnit, Fixed as IsFixed}
 use Rattle.rules.specs.declared.Source.{Source}
 use Rattle.rules.specs.declared.Direct.{Direct}
 use Rattle.rules.specs.declared.Hour.{Hour}
 use Rattle.rules.specs.declared.Refusal.{Refusal}
 use Rattle.rules.specs.declared.Refusal.the-variants.{Form}
+use Rattle.rules.specs.declared.Verdict.{Verdict}
+use Rattle.rules.specs.declared.Verdict.the-variants.{Accepted, Refused}
+use Rattle.laws.specs.Answers.{verdict-accepted, verdict-refused}
+use Rattle.laws.specs.Choices.{false-not-true}
 use Rattle.roundtrip.specs.Loop.{Going, goes-malformed, goes-on, goes-refused}
 use Rattle.roundtrip.specs.Labels.{chars-label}
 use Rattle.lines.specs.Answers.{unitLine, purchaseLine, fixedLine, deliveryLine, directLine}
 use Rattle.lines.specs.Cut.{cutFields, ranged-cut, cut-ranged, LabelStands, line-stands}
-use Rattle.ranges.specs.Inside.{plantInside, deliveryInside, directInside}
+use Rattle.ranges.specs.Inside.{plantInside, unitMade, deliveryInside, directInside}
+use Rattle.ranges.specs.declared.UnitNumbers.{UnitNumbers}
+use Rattle.ranges.specs.declared.JudgedUnit.the-variants.{Inside, Outside}
 use Rattle.ranges.specs.RangedIsInside.{unit-inside, purchase-inside, fixed-inside, delivery-inside, direct-inside}
 use Rattle.hour.specs.Keys.{keyOf}
 use Rattle.hour.specs.KeyTells.{labelled}
-use Rattle.hour.specs.Tried.{verdictOf, countsOf, nextLine, sourceTried, deliveryTried, Tables, directTried}
+use Rattle.hour.specs.Tried.{countsOf, nextLine, sourceTried, deliveryTried, Tables, directTried}
 use Rattle.hour.specs.Kept.{Kept}
 use Rattle.hour.specs.TriedIsTaken.{source-tried, delivery-tried, direct-tried}
-use Rattle.hour.specs.TablesKept.{verdict-accepted, verdict-refused, entry-named, entry-unnamed, source-let, delivery-let, direct-let, sourceAdded, kept-source, deliveryAdded, kept-delivery, directAdded, kept-direct}
+use Rattle.hour.specs.TablesKept.{entry-named, entry-unnamed, source-let, delivery-let, direct-let, sourceAdded, kept-source, deliveryAdded, kept-delivery, directAdded, kept-direct}
 use Rattle.hour.specs.declared.Key.{Key}
-use Rattle.hour.specs.declared.Verdict.{Verdict}
-use Rattle.hour.specs.declared.Verdict.the-variants.{Accepted, Refused}
 use Rattle.hour.specs.declared.DirectLine.{DirectLine}
 use Rattle.hour.specs.declared.Entry.the-variants.{Named, Unnamed}
 use Rattle.deck.specs.Answers.{Holds}
 use Rattle.deck.specs.Steps as steps
-use Rattle.deck.specs.Steps.{sourceRefused, sourceStep, unitStep, purchaseStep, fixedStep, sourceFrom, deliveryTook, deliveryStep, directTook, directStep}
+use Rattle.deck.specs.Steps.{sourceRefused, sourceStep, judgedStep, unitStep, purchaseStep, fixedStep, sourceFrom, deliveryTook, deliveryStep, directTook, directStep}
 use Rattle.deck.specs.LabelBytes.{Escaped, line-escaped}
 use Rattle.deck.specs.declared.Place.{Place}
 use Rattle.deck.specs.declared.SourceStep.{SourceStep}
@@ -112,7 +119,7 @@ module _ (s : List ℕ) (h : Hour) (at n : ℕ) (after read : Hour) (tables : Ta
       record {
         refuses = λ r v o g. goes-refused s h at o g l next e r i (t ∙ ap (λ (x : Outcome (Unit {0})). andThen x (λ u. accepted read)) (verdict-refused tried r v));
         takes = λ v.
-            let a = verdict-accepted tried v in
+            let a = verdict-accepted tried v .1 in
             let q = k a in
             record {
               goes = λ o g. goes-on s h at o g l next e after (t ∙ ap (λ (x : Outcome (Unit {0})). andThen x (λ u. accepted read)) a ∙ ap accepted (q .0));
@@ -127,22 +134,22 @@ module _ (s : List ℕ) (h : Hour) (at n : ℕ) (after read : Hour) (tables : Ta
 -- Source lines.
 
 module _ (s : List ℕ) (h : Hour) (t : Tables) (k : Kept h t) (at : ℕ) where
-  -- a line whose cut numbers are those of one plant, and its numbers those of another
-  source-tried-turn : (l : Line) (next : ℕ) (plant read : Plant) (p : fields.Place) → lineAt s at ≡ got l next → isEnd (l .letter) ≡ false → LabelStands s p → Escaped s p
-      → at < next → taken h l ≡ sourceTaken h (plantInside plant) (record { plant = read; label = labelOf (charsAt s p) }) → (plantInside plant ≡ true → plant ≡ read)
-      → SourceTurn s h t at (sourceStep s (countsOf h) (t .slo) (t .shi) plant p next)
+  -- a line whose numbers are those of a plant that was read, and where they are in their ranges those of the one that is tried
+  source-tried-turn : (l : Line) (next : ℕ) (inRange : Bool) (plant read : Plant) (p : fields.Place) → lineAt s at ≡ got l next → isEnd (l .letter) ≡ false → LabelStands s p
+      → Escaped s p → at < next → taken h l ≡ sourceTaken h inRange (record { plant = read; label = labelOf (charsAt s p) }) → (inRange ≡ true → plant ≡ read)
+      → (inRange ≡ true → plantInside plant ≡ true) → SourceTurn s h t at (sourceStep s (countsOf h) (t .slo) (t .shi) inRange plant p next)
   unfolding steps.sourceStep
-  source-tried-turn l next plant read p e i st es far took same =
+  source-tried-turn l next inRange plant read p e i st es far took same within =
       let x : Source = record { plant = plant; label = labelOf (charsAt s p) } in
       let y : Source = record { plant = read; label = labelOf (charsAt s p) } in
       let lb = labelled (charsAt s p) (st .label) in
-      let tried = sourceTried (countsOf h) (plantInside plant) plant (keyOf (labelOf (charsAt s p))) (t .slo) (t .shi) in
+      let tried = sourceTried (countsOf h) inRange plant (keyOf (labelOf (charsAt s p))) (t .slo) (t .shi) in
       tried-turn s h at (h .nsources) (withSource h x) (withSource h y) (sourceAdded t (h .nsources) x) p next l tried e i st es far
-      (took ∙ source-tried h t k (plantInside plant) y plant lb same)
+      (took ∙ source-tried h t k inRange y plant lb same)
       (λ a.
-      let r = source-let (countsOf h) (plantInside plant) plant (keyOf (labelOf (charsAt s p))) (t .slo) (t .shi) a in (
+      let r = source-let (countsOf h) inRange plant (keyOf (labelOf (charsAt s p))) (t .slo) (t .shi) a in (
         ap (λ (z : Plant). withSource h (record { plant = z; label = labelOf (charsAt s p) })) (sym (same (r .within))),
-        kept-source h t k (plantInside plant) x lb (λ w. w) a,
+        kept-source h t k inRange x lb within a,
         r .room,
       ))
 
@@ -152,16 +159,18 @@ module _ (s : List ℕ) (h : Hour) (t : Tables) (k : Kept h t) (at : ℕ) where
       (took : (w : Fields Chars (fieldsOf l)) → taken h (line l w) ≡ sourceTaken h (ranged (fieldsOf l) w) (entry w)) where
     source-turn : (v : Fields fields.Place (fieldsOf l)) (next : ℕ) → placesAt s (at + 1) l ≡ got v next → LabelStands s (place v) → Escaped s (place v)
         → entry (seen (fieldsOf l) s v) .label ≡ labelOf (charsAt s (place v))
-        → SourceTurn s h t at (sourceStep s (countsOf h) (t .slo) (t .shi) (entry (seen (fieldsOf l) s (cutFields (fieldsOf l) v)) .plant) (place v) next)
-    source-turn v next e st es lb =
+        → (inRange : Bool) (plant : Plant) → plantInside (entry (seen (fieldsOf l) s (cutFields (fieldsOf l) v)) .plant) ≡ inRange
+        → (inRange ≡ true → plant ≡ entry (seen (fieldsOf l) s (cutFields (fieldsOf l) v)) .plant)
+        → SourceTurn s h t at (sourceStep s (countsOf h) (t .slo) (t .shi) inRange plant (place v) next)
+    source-turn v next e st es lb inRange plant judged is =
         let ks = fieldsOf l in
         let w = seen ks s v in
-        let c = entry (seen ks s (cutFields ks v)) .plant in
-        let same : ranged ks w ≡ plantInside c = sym (ranged-cut l s v) ∙ inside (seen ks s (cutFields ks v)) in
+        let same : ranged ks w ≡ inRange = sym (ranged-cut l s v) ∙ inside (seen ks s (cutFields ks v)) ∙ judged in
         let ls = line-stands s l (at + 1) v next e in
-        source-tried-turn (line l w) next c (entry w .plant) (place v) (line-got s at l b v next e) i st es (omega (arith, ls .after))
-        (took w ∙ ap (λ (r : Bool). sourceTaken h r (entry w)) same ∙ ap (λ (x : Label). sourceTaken h (plantInside c) (record { plant = entry w .plant; label = x })) lb)
-        (λ r. ap (λ (v : Fields fields.Place ks). entry (seen ks s v) .plant) (cut-ranged l s v (same ∙ r)))
+        source-tried-turn (line l w) next inRange plant (entry w .plant) (place v) (line-got s at l b v next e) i st es (omega (arith, ls .after))
+        (took w ∙ ap (λ (r : Bool). sourceTaken h r (entry w)) same ∙ ap (λ (x : Label). sourceTaken h inRange (record { plant = entry w .plant; label = x })) lb)
+        (λ r. is r ∙ ap (λ (v : Fields fields.Place ks). entry (seen ks s v) .plant) (cut-ranged l s v (same ∙ r)))
+        (λ r. ap plantInside (is r) ∙ judged ∙ r)
 
   no-source : Refuses s h at (Form (lineNumber h)) → SourceTurn s h t at (sourceRefused (Form (nextLine (countsOf h))))
   no-source e = refused-turn s h at (h .nsources) _ _ _ _ _ _ (Form (lineNumber h)) e
@@ -170,10 +179,19 @@ module _ (s : List ℕ) (h : Hour) (t : Tables) (k : Kept h t) (at : ℕ) where
   unfolding lines.seen reading.taken
   unit-turn b = go (placesAt s (at + 1) U) refl
     where
-      go : (x : Field (Fields fields.Place (fieldsOf U))) → placesAt s (at + 1) U ≡ x → SourceTurn s h t at (unitStep s (countsOf h) (t .slo) (t .shi) (unitLine x))
-      go (got v next) e =
+      -- judged by its cut numbers
+      judge : (v : Fields fields.Place (fieldsOf U)) (next : ℕ) → placesAt s (at + 1) U ≡ got v next → (x : UnitNumbers)
+          → unitOf (seen (fieldsOf U) s (cutFields (fieldsOf U) v)) .plant ≡ IsUnit (unitMade x) → (r : Bool) → plantInside (IsUnit (unitMade x)) ≡ r
+          → SourceTurn s h t at (judgedStep s (countsOf h) (t .slo) (t .shi) (if r then Inside (unitMade x) else Outside) (v .1 .1 .1 .1 .1 .1 .1 .1 .1 .1 .0) next)
+      judge v next e x is true r =
           source-turn U unitOf (λ v. v .1 .1 .1 .1 .1 .1 .1 .1 .1 .1 .0) b refl unit-inside (λ w. refl) v next e
-          (line-stands s U (at + 1) v next e .labels .0) (line-escaped s U (at + 1) v next e .0) refl
+          (line-stands s U (at + 1) v next e .labels .0) (line-escaped s U (at + 1) v next e .0) refl true (IsUnit (unitMade x)) (ap plantInside is ∙ r) (λ q. sym is)
+      judge v next e x is false r =
+          source-turn U unitOf (λ v. v .1 .1 .1 .1 .1 .1 .1 .1 .1 .1 .0) b refl unit-inside (λ w. refl) v next e
+          (line-stands s U (at + 1) v next e .labels .0) (line-escaped s U (at + 1) v next e .0) refl false (IsFixed 0) (ap plantInside is ∙ r) (λ q. false-not-true q)
+
+      go : (x : Field (Fields fields.Place (fieldsOf U))) → placesAt s (at + 1) U ≡ x → SourceTurn s h t at (unitStep s (countsOf h) (t .slo) (t .shi) (unitLine x))
+      go (got v next) e = judge v next e _ refl _ refl
       go malformed e = no-source (λ o g. goes-malformed s h at o g (line-malformed s at U b e))
 
   purchase-turn : letterOf (byte s at) ≡ some P → SourceTurn s h t at (purchaseStep s (countsOf h) (t .slo) (t .shi) (purchaseLine (placesAt s (at + 1) P)))
@@ -183,7 +201,7 @@ module _ (s : List ℕ) (h : Hour) (t : Tables) (k : Kept h t) (at : ℕ) where
       go : (x : Field (Fields fields.Place (fieldsOf P))) → placesAt s (at + 1) P ≡ x → SourceTurn s h t at (purchaseStep s (countsOf h) (t .slo) (t .shi) (purchaseLine x))
       go (got v next) e =
           source-turn P purchaseOf (λ v. v .1 .1 .0) b refl purchase-inside (λ w. refl) v next e
-          (line-stands s P (at + 1) v next e .labels .0) (line-escaped s P (at + 1) v next e .0) refl
+          (line-stands s P (at + 1) v next e .labels .0) (line-escaped s P (at + 1) v next e .0) refl _ _ refl (λ r. refl)
       go malformed e = no-source (λ o g. goes-malformed s h at o g (line-malformed s at P b e))
 
   fixed-turn : letterOf (byte s at) ≡ some F → SourceTurn s h t at (fixedStep s (countsOf h) (t .slo) (t .shi) (fixedLine (placesAt s (at + 1) F)))
@@ -193,7 +211,7 @@ module _ (s : List ℕ) (h : Hour) (t : Tables) (k : Kept h t) (at : ℕ) where
       go : (x : Field (Fields fields.Place (fieldsOf F))) → placesAt s (at + 1) F ≡ x → SourceTurn s h t at (fixedStep s (countsOf h) (t .slo) (t .shi) (fixedLine x))
       go (got v next) e =
           source-turn F fixedOf (λ v. v .1 .0) b refl fixed-inside (λ w. refl) v next e
-          (line-stands s F (at + 1) v next e .labels .0) (line-escaped s F (at + 1) v next e .0) refl
+          (line-stands s F (at + 1) v next e .labels .0) (line-escaped s F (at + 1) v next e .0) refl _ _ refl (λ r. refl)
       go malformed e = no-source (λ o g. goes-malformed s h at o g (line-malformed s at F b e))
 
   -- a second H line, and a line of no letter

@@ -1,8 +1,10 @@
 // Reads a whole deck in one pass, line by line, and tells where each label's own bytes stand in it.
-// The contracts cite rules' Reading and Calls for what a deck comes to, Answers for the structs that say it, and Steps for the line at hand.
+// A struct holds the deck and its place; its functions are thin, over covered ones on slice and place.
+// The contracts cite rules' Reading and Calls for what a deck comes to, Answers for the structs that say it, Steps for the line at hand, and FirstLine for the first line and those after it.
 ghost use mathlib.Core.Path.{_≡_};
 ghost use Prim.Native.Nat.{_<_, _≤_};
 ghost use lib.ListN.{length};
+ghost use Rattle.rules.specs.Answers.{verdictOf};
 ghost use Rattle.rules.specs.Lines.{T, D, U, P, F, placesAt};
 ghost use Rattle.rules.specs.Record.{started, blankSource, blankDelivery, labelOf};
 ghost use Rattle.rules.specs.Fields.{byteAt, charsAt};
@@ -12,19 +14,20 @@ ghost use Rattle.text.specs.Answers.{stepOf};
 ghost use Rattle.lines.specs.Answers.{unitLine, purchaseLine, fixedLine, deliveryLine, directLine};
 ghost use Rattle.lines.specs.Cut.{LabelStands};
 ghost use Rattle.hour.specs.Keys.{keyOf};
-ghost use Rattle.hour.specs.Tried.{verdictOf, Few};
+ghost use Rattle.hour.specs.Tried.{Few};
 ghost use Rattle.deck.specs.Answers.{readAnswer, bytesOf, refusedScan, Scanned};
+ghost use Rattle.deck.specs.FirstLine.{headRefused, headStep, readerAt, rowsAfter};
 ghost use Rattle.deck.specs.Steps.{sourceStep, sourceRefused, unitStep, purchaseStep, fixedStep, sourceFrom, deliveryRefused, deliveryStep, directStep, endVerdict};
 use hour::Counts;
 use hour::Entry;
 use hour::Key;
-use hour::Verdict;
 use lines::DeliveryLine;
 use lines::DirectLine;
 use lines::FixedLine;
 use lines::HeadLine;
 use lines::PurchaseLine;
 use lines::UnitLine;
+use ranges::JudgedUnit;
 use rules::Basis;
 use rules::Delivery;
 use rules::Direct;
@@ -34,6 +37,7 @@ use rules::Label;
 use rules::Plant;
 use rules::Refusal;
 use rules::Source;
+use rules::Verdict;
 use text::Step;
 
 // Where a label's own bytes start and end.
@@ -53,6 +57,19 @@ pub struct ScannedDeck {
 pub struct ReadHour {
     pub verdict: Verdict,
     pub hour: Hour,
+}
+
+// The deck that is read, and the place reached in it.
+struct Reader<'a> {
+    deck: &'a [u8],
+    at: usize,
+}
+
+// 1 and the first line: the verdict, and for a line that starts an hour its losses and the place after it.
+struct HeadStep {
+    verdict: Verdict,
+    losses: u32,
+    next: usize,
 }
 
 // A line at hand: the verdict on it, and for one that is taken its entry, the key and the place of its label, and the place after the line.
@@ -162,9 +179,11 @@ fn source_refused(r: Refusal) -> SourceStep
     }
 }
 
+// A source with its label. Where it is not in its ranges, 2 or 3 refuses it, whatever the plant.
 fn try_source(
     s: &[u8],
     n: Counts,
+    ranged: bool,
     plant: Plant,
     from: usize,
     upto: usize,
@@ -173,11 +192,10 @@ fn try_source(
     hi: &[u64; 32],
 ) -> SourceStep
     requires { ⌜ Few n × LabelStands (now s) (record { from = from; upto = upto }) ⌝ }
-    ensures { λ r. ⌜ r ≡ sourceStep (now (s .entry)) n (now (lo .entry)) (now (hi .entry)) plant (record { from = from; upto = upto }) next ⌝ }
+    ensures { λ r. ⌜ r ≡ sourceStep (now (s .entry)) n (now (lo .entry)) (now (hi .entry)) ranged plant (record { from = from; upto = upto }) next ⌝ }
 {
     let label = text::label_at(&s[from..upto]);
     let key = hour::key_of(label);
-    let ranged = ranges::plant_in_range(plant);
     let verdict = hour::take_source(n, ranged, plant, key, lo, hi);
     SourceStep {
         verdict,
@@ -192,11 +210,14 @@ fn unit_at(s: &[u8], at: usize, n: Counts, lo: &[u64; 32], hi: &[u64; 32]) -> So
     requires { ⌜ Few n ⌝ }
     ensures { λ r. ⌜ r ≡ unitStep (now (s .entry)) n (now (lo .entry)) (now (hi .entry)) (unitLine (placesAt (now (s .entry)) at U)) ⌝ }
 {
-    let UnitLine::Read(u, from, upto, next) = lines::unit(s, at) else {
+    let UnitLine::Read(x, from, upto, next) = lines::unit(s, at) else {
         let line = hour::next_line(n);
         return source_refused(Refusal::Form(line));
     };
-    try_source(s, n, Plant::Unit(u), from, upto, next, lo, hi)
+    let JudgedUnit::Inside(u) = ranges::judge_unit(x) else {
+        return try_source(s, n, false, Plant::Fixed { g: 0 }, from, upto, next, lo, hi);
+    };
+    try_source(s, n, true, Plant::Unit(u), from, upto, next, lo, hi)
 }
 
 fn purchase_at(s: &[u8], at: usize, n: Counts, lo: &[u64; 32], hi: &[u64; 32]) -> SourceStep
@@ -207,7 +228,9 @@ fn purchase_at(s: &[u8], at: usize, n: Counts, lo: &[u64; 32], hi: &[u64; 32]) -
         let line = hour::next_line(n);
         return source_refused(Refusal::Form(line));
     };
-    try_source(s, n, Plant::Purchase { g, rate }, from, upto, next, lo, hi)
+    let plant = Plant::Purchase { g, rate };
+    let ranged = ranges::plant_in_range(plant);
+    try_source(s, n, ranged, plant, from, upto, next, lo, hi)
 }
 
 fn fixed_at(s: &[u8], at: usize, n: Counts, lo: &[u64; 32], hi: &[u64; 32]) -> SourceStep
@@ -218,7 +241,9 @@ fn fixed_at(s: &[u8], at: usize, n: Counts, lo: &[u64; 32], hi: &[u64; 32]) -> S
         let line = hour::next_line(n);
         return source_refused(Refusal::Form(line));
     };
-    try_source(s, n, Plant::Fixed { g }, from, upto, next, lo, hi)
+    let plant = Plant::Fixed { g };
+    let ranged = ranges::plant_in_range(plant);
+    try_source(s, n, ranged, plant, from, upto, next, lo, hi)
 }
 
 // A source line by its letter; a line of no letter is refused.
@@ -233,13 +258,13 @@ fn source_at(
     requires { ⌜ Few n ⌝ }
     ensures { λ r. ⌜ r ≡ sourceFrom (now (s .entry)) at letter n (now (lo .entry)) (now (hi .entry)) ⌝ }
 {
-    if letter == 85 {
+    if letter == b'U' {
         return unit_at(s, at, n, lo, hi);
     }
-    if letter == 80 {
+    if letter == b'P' {
         return purchase_at(s, at, n, lo, hi);
     }
-    if letter == 70 {
+    if letter == b'F' {
         return fixed_at(s, at, n, lo, hi);
     }
     let line = hour::next_line(n);
@@ -339,7 +364,7 @@ fn end_at(s: &[u8], at: usize, line: usize) -> Verdict
     requires { ⌜ line < 100 ⌝ }
     ensures { λ r. ⌜ r ≡ endVerdict (length (now (s .entry))) line (stepOf (byteAt (now (s .entry)) at 10)) ⌝ }
 {
-    let Step::At(p) = text::byte(s, at, 10) else {
+    let Step::At(p) = text::byte(s, at, b'\n') else {
         return Verdict::Refused(Refusal::Form(line));
     };
     if p != s.len() {
@@ -371,7 +396,7 @@ fn rows(s: &[u8], losses: u32, from: usize) -> ScannedDeck
             deliveries: h.ndeliveries,
             directs: h.ndirects,
         };
-        if letter == 68 {
+        if letter == b'D' {
             let x = direct_at(
                 s,
                 at + 1,
@@ -400,7 +425,7 @@ fn rows(s: &[u8], losses: u32, from: usize) -> ScannedDeck
                     at = x.next;
                 }
             }
-        } else if letter == 84 {
+        } else if letter == b'T' {
             let x = delivery_at(s, at + 1, n, &tlo, &thi);
             let v = x.verdict;
             if let Verdict::Refused(r) = v {
@@ -416,7 +441,7 @@ fn rows(s: &[u8], losses: u32, from: usize) -> ScannedDeck
             h.deliveries[m] = e;
             h.ndeliveries = m + 1;
             at = x.next;
-        } else if letter == 69 {
+        } else if letter == b'E' {
             let line = hour::next_line(n);
             let v = end_at(s, at + 1, line);
             if let Verdict::Refused(r) = v {
@@ -460,23 +485,87 @@ fn rows(s: &[u8], losses: u32, from: usize) -> ScannedDeck
     refused(Refusal::Form(line))
 }
 
-// One pass over the deck: 1, then the first faulty line with the least of 2 to 9, then 10 and 11.
+// 1, then the first line from its letter on.
+
+fn head_refused(r: Refusal) -> HeadStep
+    ensures { λ x. ⌜ x ≡ headRefused r ⌝ }
+{
+    HeadStep {
+        verdict: Verdict::Refused(r),
+        losses: 0,
+        next: 0,
+    }
+}
+
+fn head_at(s: &[u8], at: usize) -> HeadStep
+    ensures { λ r. ⌜ r ≡ headStep (now (s .entry)) at ⌝ }
+{
+    if 8192 < s.len() {
+        return head_refused(Refusal::TooLong);
+    }
+    let Step::At(p) = text::byte(s, at, b'H') else {
+        return head_refused(Refusal::Form(1));
+    };
+    let HeadLine::Read(losses, end) = lines::head(s, p) else {
+        return head_refused(Refusal::Form(1));
+    };
+    if !ranges::losses_in_range(losses) {
+        return head_refused(Refusal::Range(1));
+    }
+    HeadStep {
+        verdict: Verdict::Accepted,
+        losses,
+        next: end,
+    }
+}
+
+// The lines after the first, which are not looked at where that one is refused.
+fn rows_after(s: &[u8], at: usize, head: HeadStep) -> ScannedDeck
+    ensures { λ r. ⌜ Scanned (now (s .entry)) (rowsAfter (now (s .entry)) at head) r ⌝ }
+{
+    let v = head.verdict;
+    match v {
+        Verdict::Refused(r) => refused(r),
+        Verdict::Accepted => rows(s, head.losses, at),
+    }
+}
+
+// The reader.
+
+fn open<'a>(deck: &'a [u8]) -> Reader<'a>
+    ensures { λ r. ⌜ r ≡ readerAt (deck .entry) 0 ⌝ }
+{
+    Reader { deck, at: 0 }
+}
+
+// 1, and the first line at its place.
+fn head<'a>(r: Reader<'a>) -> HeadStep
+    ensures { λ x. ⌜ x ≡ headStep (now (r .entry .deck)) (r .entry .at) ⌝ }
+{
+    head_at(r.deck, r.at)
+}
+
+// The same deck at another place.
+fn moved<'a>(r: Reader<'a>, at: usize) -> Reader<'a>
+    ensures { λ q. ⌜ q ≡ readerAt (r .entry .deck) at ⌝ }
+{
+    Reader { deck: r.deck, at }
+}
+
+// The lines from its place on, after the first one.
+fn rows_from<'a>(r: Reader<'a>, head: HeadStep) -> ScannedDeck
+    ensures { λ x. ⌜ Scanned (now (r .entry .deck)) (rowsAfter (now (r .entry .deck)) (r .entry .at) head) x ⌝ }
+{
+    rows_after(r.deck, r.at, head)
+}
+
+// One pass over the deck, gone through by a reader: 1, then the first faulty line with the least of 2 to 9, then 10 and 11.
 pub fn scan(s: &[u8]) -> ScannedDeck
     ensures { λ r. ⌜ Scanned (now (s .entry)) (reading (now (s .entry))) r ⌝ }
 {
-    if 8192 < s.len() {
-        return refused(Refusal::TooLong);
-    }
-    let Step::At(p) = text::byte(s, 0, 72) else {
-        return refused(Refusal::Form(1));
-    };
-    let HeadLine::Read(losses, next) = lines::head(s, p) else {
-        return refused(Refusal::Form(1));
-    };
-    if !ranges::losses_in_range(losses) {
-        return refused(Refusal::Range(1));
-    }
-    rows(s, losses, next)
+    let r = open(s);
+    let x = head(r);
+    rows_from(moved(r, x.next), x)
 }
 
 pub fn read(s: &[u8]) -> ReadHour

@@ -1,13 +1,13 @@
 -- What one D line's arithmetic rests on: b and the MWh are small, D only grows and stays within the level, and the cost charged only grows.
-use mathlib.Core.Bool.{true, false}
-use mathlib.Core.Path.{_≡_, refl}
+use mathlib.Core.Bool.{false}
+use mathlib.Core.Path.{_≡_, refl, ap}
 use Prim.Native.Nat.{ℕ, _+_, _-_, _*_, _/_, _≤_, min}
 use native.Mathlib.Omega.{arith}
 use Rattle.laws.specs.Sums.{part-most}
 use Rattle.merit.specs.ChangedFromB.{changed-under}
 use Rattle.merit.specs.LevelNeverBelowB.{Sound, Took, directed-took}
 use Rattle.merit.specs.NumbersStaySmall.{Small}
-use Rattle.rules.specs.Group.{changed, level, basis, basic, withBasic, directed}
+use Rattle.rules.specs.Group.{changed, level, basis, basic, basedOn, withBasic, renewed, directed}
 use Rattle.rules.specs.declared.Basis.{Basis}
 use Rattle.rules.specs.declared.Direct.{Direct}
 use Rattle.rules.specs.declared.Running.{Running}
@@ -41,8 +41,12 @@ allocates s line g l h =
 pub basic-new : (s : Running) (x : Basis) (r : ℕ) → s .based ≡ false → r ≡ min (s .v) (basis x (s .plant)) → r ≡ basic s x
 basic-new s x r e h = rw e h
 
--- the state with D renewed, of its parts
-pub directed-is : (s : Running) (line : Direct) (t : Running) (after before : ℕ) → t ≡ withBasic s (line .basis) → let p = s .percent + line .percent in after ≡ changed t (t .b * p / 100) → before ≡ changed t (s .d) →
-    _≡_ {A = Running} (record { plant = s .plant; v = s .v - (t .b * p / 100 - s .d); d = t .b * p / 100; b = t .b; based = true; percent = p; paid = s .paid + (after - before) }) (directed s line)
-unfolding directed
-directed-is s line t after before e a b = rw (a, b, e)
+-- one D line's state and charge, of the b that was set
+module _ (s : Running) (line : Direct) (t : Running) (e : t ≡ withBasic s (line .basis)) where
+  pub directed-is : renewed (basedOn s (t .b)) (s .percent + line .percent) ≡ directed s line
+  unfolding directed
+  directed-is = ap (λ (x : Running). renewed (basedOn s (x .b)) (s .percent + line .percent)) e
+
+  pub charged-is : (after before : ℕ) → let mwh = t .b * (s .percent + line .percent) / 100 in after ≡ changed t mwh → before ≡ changed (withBasic s (line .basis)) (s .d) →
+      s .paid + (after - before) ≡ s .paid + (changed (basedOn s (t .b)) mwh - changed (basedOn s (t .b)) (s .d))
+  charged-is after before a b = rw (a, b, e)

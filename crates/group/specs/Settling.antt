@@ -12,8 +12,6 @@ use lib.ListN.{length}
 use Rattle.curve.specs.declared.Rung.{Rung}
 use Rattle.curve.specs.declared.Rung.the-variants.{Normal, Oil, Emergency}
 use Rattle.group.specs.declared.Settled.{Settled}
-use Rattle.group.specs.declared.Verdict.{Verdict}
-use Rattle.group.specs.declared.Verdict.the-variants.{Done, Refused}
 use Rattle.ladder.specs.Ways.{wayOf, upOf, byPrice, Long}
 use Rattle.ladder.specs.declared.Way.{Way}
 use Rattle.ladder.specs.declared.Way.the-variants.{Down, Up}
@@ -24,12 +22,18 @@ use Rattle.rules.specs.declared.InternalSequence.{InternalSequence}
 use Rattle.rules.specs.declared.Refusal.{Refusal}
 use Rattle.rules.specs.declared.Refusal.the-variants.{NoRoom, NoHeadroom}
 use Rattle.rules.specs.declared.Running.{Running}
+use Rattle.rules.specs.declared.Verdict.{Verdict}
+use Rattle.rules.specs.declared.Verdict.the-variants.{Accepted}
+use Rattle.rules.specs.Answers.{verdictOf}
 use Rattle.shift.specs.Ready.{AllReady}
 
--- refused: the states as they were
+-- the states after it; refused: as they were
+abbrev pub statesOf : List Running → Outcome (List Running) → List Running
+statesOf ss (accepted us) = us
+statesOf ss (refused x) = ss
+
 abbrev pub settled : List Running → Outcome (List Running) → Settled
-settled ss (accepted us) = record { verdict = Done; states = us }
-settled ss (refused x) = record { verdict = Refused x; states = ss }
+settled ss o = record { verdict = verdictOf o; states = statesOf ss o }
 
 -- by how much two numbers differ
 abbrev pub apart : ℕ → ℕ → ℕ
@@ -77,7 +81,7 @@ module _ (ss : List Running) {o : Outcome (List Running)} where
   pub settled-done : {us ws : List Running} → us ≡ ws → o ≡ accepted ws → settled ss (accepted us) ≡ settled ss o
   settled-done b e = rw e (ap (λ (xs : List Running). settled ss (accepted xs)) b)
 
-  pub settled-end : {ws : List Running} (e : Settled) → e .verdict ≡ Done → e .states ≡ ws → o ≡ accepted ws → e ≡ settled ss o
+  pub settled-end : {ws : List Running} (e : Settled) → e .verdict ≡ Accepted → e .states ≡ ws → o ≡ accepted ws → e ≡ settled ss o
   settled-end e v s q = rw q (ap (λ (x : Verdict). record { verdict = x; states = e .states }) v ∙ ap (λ (xs : List Running). settled ss (accepted xs)) s)
 
   pub settled-refused : {x : Refusal} → o ≡ refused x → settled ss (refused x) ≡ settled ss o

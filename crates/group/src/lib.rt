@@ -10,6 +10,7 @@ use rules::InternalSequence;
 use rules::Plant;
 use rules::Refusal;
 use rules::Running;
+use rules::Verdict;
 ghost use mathlib.Core.Path.{_≡_};
 ghost use Prim.Native.Nat.{_+_, _≤_};
 ghost use Rattle.rules.specs.Units.{normalLow, generation};
@@ -19,13 +20,7 @@ ghost use Rattle.merit.specs.NumbersStaySmall.{Small};
 ghost use Rattle.shift.specs.Ready.{AllReady};
 ghost use Rattle.group.specs.Settling.{settled, apart, tries, wayAt, Short, outcome};
 
-// What a remainder comes to.
-pub enum Verdict {
-    Done,
-    Refused(Refusal),
-}
-
-// The states after it; where it is refused, as they were.
+// What a remainder comes to, and the states after it; where it is refused, as they were.
 pub struct Settled {
     pub verdict: Verdict,
     pub states: [Running; 32],
@@ -173,7 +168,7 @@ fn settle_last(
     }
     let lowered = ladder::rooms(Way::Down(Rung::Emergency), states, n);
     Settled {
-        verdict: Verdict::Done,
+        verdict: Verdict::Accepted,
         states: ladder::below_emergency(states, n, total - lowered),
     }
 }
@@ -197,7 +192,7 @@ pub fn settle(
     let mut step: [u64; 32] = [0; 32];
     let mut cap: [u64; 32] = [0; 32];
     let mut end = Settled {
-        verdict: Verdict::Done,
+        verdict: Verdict::Accepted,
         states: states,
     };
     let mut tried = 0;

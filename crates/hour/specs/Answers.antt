@@ -5,21 +5,22 @@ use mathlib.Core.Option.{Option, none, some}
 use Prim.Native.Nat.{ℕ, _+_, _<_, _≤_}
 use native.Mathlib.Omega.{arith}
 use lib.Dec.{ltb}
-use borrow.Author.Tests.{lt-ltb, le-ltb, not-false}
-use Rattle.rules.specs.Words.{findTo}
-use Rattle.rules.specs.Sequences.{toPlace}
+use borrow.Author.Tests.{lt-ltb, le-ltb}
+use Rattle.rules.specs.Words.{isNone, findTo}
+use Rattle.rules.specs.Answers.{verdictOf}
+use Rattle.rules.specs.Sequences.{numbered}
 use Rattle.rules.specs.Reading as reading
-use Rattle.rules.specs.Reading.{generated, delivered, finished, unplaced, needsPlacer}
+use Rattle.rules.specs.Reading.{generated, delivered, finished}
 use Rattle.rules.specs.Record.{deliveryAt}
 use Rattle.rules.specs.declared.Hour.{Hour}
 use Rattle.rules.specs.declared.Refusal.the-variants.{Overdrawn, Unplaced}
-use Rattle.laws.specs.Lists.{findTo-passes, findTo-none}
+use Rattle.rules.specs.declared.Verdict.the-variants.{Accepted, Refused}
+use Rattle.laws.specs.Lists.{findTo-passes}
+use Rattle.roundtrip.specs.FirstUnplaced.{placer, all-numbered, none-numbered}
 use Rattle.hour.specs.Keys.{spotOf}
-use Rattle.hour.specs.Tried.{verdictOf, placerTo}
-use Rattle.hour.specs.Finds.{findTo-zero, findTo-here}
+use Rattle.hour.specs.Finds.{findTo-zero, findTo-here, findTo-fails}
 use Rattle.hour.specs.declared.Spot.{Spot}
 use Rattle.hour.specs.declared.Spot.the-variants.{At}
-use Rattle.hour.specs.declared.Verdict.the-variants.{Accepted, Refused}
 
 -- Places found.
 
@@ -40,28 +41,29 @@ sum-within {r} {s} {t} {a} {b} {c} x y z h = le-ltb a (b + c) (omega arith)
 
 -- After E: 10, and 11 by the first delivery with a number of its own.
 
-pub finished-overdrawn : (h : Hour) → ltb (generated h) (h .losses + delivered h) ≡ true → Refused Overdrawn ≡ verdictOf (finished h)
-unfolding reading.finished
-finished-overdrawn h o = rw o
+module _ (h : Hour) where
+  pub finished-overdrawn : ltb (generated h) (h .losses + delivered h) ≡ true → Refused Overdrawn ≡ verdictOf (finished h)
+  unfolding reading.finished
+  finished-overdrawn o = rw o
 
-pub finished-none : (h : Hour) → ltb (generated h) (h .losses + delivered h) ≡ false → h .ndeliveries ≡ 0 → Accepted ≡ verdictOf (finished h)
-unfolding reading.finished
-finished-none h o e = rw (o, e, findTo-zero (λ i. toPlace (deliveryAt h i)))
+  finished-numbered : ltb (generated h) (h .losses + delivered h) ≡ false
+      → ((i : ℕ) → i < h .ndeliveries → isNone (numbered (h .deliveries) (h .ndeliveries) (deliveryAt h i)) ≡ false) → Accepted ≡ verdictOf (finished h)
+  unfolding reading.finished
+  finished-numbered o each = rw (o, findTo-fails (λ i. isNone (numbered (h .deliveries) (h .ndeliveries) (deliveryAt h i))) (h .ndeliveries) each)
 
-pub finished-placed : (h : Hour) (j : ℕ) → ltb (generated h) (h .losses + delivered h) ≡ false → placerTo (h .deliveries) (h .ndeliveries) ≡ some j → Accepted ≡ verdictOf (finished h)
-unfolding reading.finished
-finished-placed h j o e = rw (o, e) (go (unplaced h))
-  where
-    go : (x : Option ℕ) → Accepted ≡ verdictOf (needsPlacer h x (some j))
-    go none = refl
-    go (some i) = refl
+  pub finished-none : ltb (generated h) (h .losses + delivered h) ≡ false → h .ndeliveries ≡ 0 → Accepted ≡ verdictOf (finished h)
+  finished-none o e = finished-numbered o (λ i l. absurd (omega arith))
 
--- the first of all is the first without a number
-pub finished-unplaced : (h : Hour) → ltb (generated h) (h .losses + delivered h) ≡ false → (h .ndeliveries ≡ 0 → ⊥) → placerTo (h .deliveries) (h .ndeliveries) ≡ none
-    → Refused (Unplaced (h .nsources + 2)) ≡ verdictOf (finished h)
-unfolding reading.finished
-finished-unplaced h o some-there e =
-    let there : 0 < h .ndeliveries = omega arith in
-    let first = findTo-here (λ i. toPlace (deliveryAt h i)) (h .ndeliveries) 0 there (findTo-zero _) (not-false _ (findTo-none _ _ e 0 there)) in
-    let line : h .nsources + 2 + 0 ≡ h .nsources + 2 = omega arith in
-    rw (o, first, e, line)
+  pub finished-placed : (j : ℕ) → ltb (generated h) (h .losses + delivered h) ≡ false → placer h ≡ some j → Accepted ≡ verdictOf (finished h)
+  finished-placed j o e = finished-numbered o (λ i l. all-numbered h j e (deliveryAt h i))
+
+  -- the first of all is the first without a number
+  pub finished-unplaced : ltb (generated h) (h .losses + delivered h) ≡ false → (h .ndeliveries ≡ 0 → ⊥) → placer h ≡ none
+      → Refused (Unplaced (h .nsources + 2)) ≡ verdictOf (finished h)
+  unfolding reading.finished
+  finished-unplaced o some-there e =
+      let there : 0 < h .ndeliveries = omega arith in
+      let first =
+      findTo-here (λ i. isNone (numbered (h .deliveries) (h .ndeliveries) (deliveryAt h i))) (h .ndeliveries) 0 there (findTo-zero _) (none-numbered h e 0 there) in
+      let line : h .nsources + 2 + 0 ≡ h .nsources + 2 = omega arith in
+      rw (o, first, line)

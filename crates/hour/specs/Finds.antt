@@ -1,6 +1,6 @@
 -- Laws of the first that passes and of all that pass, up to a number.
 use mathlib.Core.Path.{_≡_, refl, ap, sym, _∙_}
-use mathlib.Core.Bool.{Bool, true, false, not, _&&_}
+use mathlib.Core.Bool.{Bool, true, false, _&&_, _||_}
 use mathlib.Core.List.{List}
 use mathlib.Core.Logic.{⊎-elim}
 use mathlib.Core.Option.{Option, none, some}
@@ -11,7 +11,7 @@ use native.Mathlib.Omega.{arith}
 use lib.ListN.{length, getD, set}
 use lib.Seq.{getD-set-same, getD-set-other}
 use Rattle.rules.specs.Words as words
-use Rattle.rules.specs.Words.{if_then_else_, allTo, _otherwise_, findTo}
+use Rattle.rules.specs.Words.{if_then_else_, allTo, anyTo, _otherwise_, findTo}
 use Rattle.laws.specs.Choices.{true-not-false}
 use Rattle.laws.specs.Lists.{findTo-none, findTo-passes}
 use Rattle.hour.specs.Keys.{spotOf}
@@ -65,18 +65,22 @@ unfolding words.findTo
 findTo-same p q zero h = refl
 findTo-same p q (suc n) h = rw (findTo-same p q n (λ i l. h i (omega arith)), h n (omega arith))
 
--- one is found unless all fail
-pub found-not-all : (p : ℕ → Bool) (n : ℕ) → not (allTo (λ i. not (p i)) n) ≡ isFound (spotOf (findTo p n))
-unfolding words.allTo words.findTo
-found-not-all p zero = refl
-found-not-all p (suc n) = go (findTo p n) (p n) (allTo (λ i. not (p i)) n) (found-not-all p n)
+-- none where all fail
+pub findTo-fails : (p : ℕ → Bool) (n : ℕ) → ((i : ℕ) → i < n → p i ≡ false) → findTo p n ≡ none
+unfolding words.findTo
+findTo-fails p zero h = refl
+findTo-fails p (suc n) h = rw (findTo-fails p n (λ i l. h i (omega arith)), h n (omega arith))
+
+-- one is found where any passes
+pub found-any : (p : ℕ → Bool) (n : ℕ) → anyTo p n ≡ isFound (spotOf (findTo p n))
+unfolding words.anyTo words.findTo
+found-any p zero = refl
+found-any p (suc n) = go (findTo p n) (p n) (anyTo p n) (found-any p n)
   where
-    go : (x : Option ℕ) (b a : Bool) → not a ≡ isFound (spotOf x) → not (a && not b) ≡ isFound (spotOf (x otherwise (if b then some n else none)))
-    go none true true e = refl
-    go none false true e = refl
-    go none b false e = true-not-false e
-    go (some i) b true e = true-not-false (sym e)
-    go (some i) b false e = refl
+    go : (x : Option ℕ) (b a : Bool) → a ≡ isFound (spotOf x) → (a || b) ≡ isFound (spotOf (x otherwise (if b then some n else none)))
+    go none true a e = rw e
+    go none false a e = rw e
+    go (some i) b a e = rw e
 
 otherwise-none : (x : Option ℕ) → (x otherwise none) ≡ x
 otherwise-none none = refl

@@ -10,7 +10,7 @@ use native.Mathlib.Omega.{arith}
 use lib.Dec.{eqb}
 use lib.ListN.{length, getD, set, replicate, length-set}
 use lib.Seq.{getD-set-same, getD-set-other}
-use Rattle.rules.specs.Words.{allTo, findTo}
+use Rattle.rules.specs.Words.{anyTo, findTo}
 use Rattle.rules.specs.Units.{isUnit}
 use Rattle.rules.specs.Record.{sameLabel, sourceAt, deliveryAt}
 use Rattle.rules.specs.Reading.{basisKept, percentsOf}
@@ -23,7 +23,7 @@ use Rattle.laws.specs.Lists.{findTo-none}
 use Rattle.laws.specs.Sums.{below-suc}
 use Rattle.hour.specs.Keys.{keyOf, sameKey, spotOf, keyAt, keyTo, keyFound}
 use Rattle.hour.specs.Tried.{countsOf, Few, isFound, Tables, unitHigh, codeLeaves}
-use Rattle.hour.specs.Finds.{findTo-only, findTo-same, found-not-all, kept, findTo-both}
+use Rattle.hour.specs.Finds.{findTo-only, findTo-same, found-any, kept, findTo-both}
 use Rattle.hour.specs.KeyTells.{Labelled, sameKey-tells, sameKey-self, key-tells}
 use Rattle.hour.specs.declared.Key.{Key}
 
@@ -107,8 +107,8 @@ module _ (label : ℕ → Label) (n : ℕ) (lo hi : List ℕ) (k : Keyed label n
   pub keyed-found : findTo (λ i. sameLabel (label i) l) n ≡ keyTo lo hi (keyOf l) n
   keyed-found = findTo-same (λ i. sameLabel (label i) l) (λ i. sameKey (keyAt lo hi i) (keyOf l)) n same-at
 
-  pub keyed-used : not (allTo (λ i. not (sameLabel (label i) l)) n) ≡ isFound (keyFound lo hi n (keyOf l))
-  keyed-used = found-not-all (λ i. sameLabel (label i) l) n ∙ ap (λ (x : Option ℕ). isFound (spotOf x)) keyed-found
+  pub keyed-used : anyTo (λ i. sameLabel (label i) l) n ≡ isFound (keyFound lo hi n (keyOf l))
+  keyed-used = found-any (λ i. sameLabel (label i) l) n ∙ ap (λ (x : Option ℕ). isFound (spotOf x)) keyed-found
 
   -- and as no two are the same, so is the first of them that passes another test
   pub keyed-both : (u : ℕ → Bool) → findTo (λ i. u i && sameLabel (label i) l) n ≡ kept u (keyTo lo hi (keyOf l) n)

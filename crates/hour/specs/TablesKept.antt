@@ -1,7 +1,7 @@
 -- The tables of an hour stay its tables as it grows: at each line that is let through, its numbers are set in them.
 --     kept-started                               an hour without entries has tables of zeros
 --     kept-source, kept-delivery, kept-direct    one entry more
---     verdict-accepted, verdict-refused, entry-named, entry-unnamed     what the code's answers tell
+--     entry-named, entry-unnamed                 what the answer to a D line tells
 use mathlib.Core.Path.{_≡_, refl, ap, sym, _∙_}
 use mathlib.Core.Bool.{Bool, true, false, not, _&&_}
 use mathlib.Core.List.{List, []}
@@ -40,7 +40,7 @@ use Rattle.ranges.specs.Inside as tests
 use Rattle.ranges.specs.Inside.{plantInside}
 use Rattle.hour.specs.Keys.{keyOf, spotOf, keyAt, keyTo}
 use Rattle.hour.specs.Tried as tried
-use Rattle.hour.specs.Tried.{verdictOf, entryOf, countsOf, nextLine, isFound, labelTried, sourceTried, deliveryTried, Tables, unitHigh, basisCode, codeLeaves, belowMost, pairFound, onPair, directTried}
+use Rattle.hour.specs.Tried.{entryOf, countsOf, nextLine, isFound, labelTried, sourceTried, deliveryTried, Tables, unitHigh, basisCode, codeLeaves, belowMost, pairFound, onPair, directTried}
 use Rattle.hour.specs.Finds.{truths-same, and-false, and-true, allTo-set}
 use Rattle.hour.specs.Pairs.{pair-within}
 use Rattle.hour.specs.KeyTells.{Labelled}
@@ -48,20 +48,11 @@ use Rattle.hour.specs.Kept.{keyed-none, keyed-more, High, Kept}
 use Rattle.hour.specs.declared.Key.{Key}
 use Rattle.hour.specs.declared.Counts.{Counts}
 use Rattle.hour.specs.declared.DirectLine.{DirectLine}
-use Rattle.hour.specs.declared.Verdict.the-variants.{Accepted, Refused}
 use Rattle.hour.specs.declared.Entry.the-variants.{Named, Unnamed}
 use Rattle.hour.specs.declared.Pair.{Pair}
 use Rattle.hour.specs.declared.Pair.the-variants.{Both, Missing}
 
--- What the code's answers tell.
-
-pub verdict-accepted : (o : Outcome (Unit {0})) → verdictOf o ≡ Accepted → o ≡ accepted tt
-verdict-accepted (accepted a) e = refl
-verdict-accepted (refused r) e = let z : _≡_ {A = ℕ} 0 1 = cc in absurd (omega arith)
-
-pub verdict-refused : {A : Type 0} (o : Outcome A) (r : Refusal) → verdictOf o ≡ Refused r → o ≡ refused r
-verdict-refused (accepted a) r e = let z : _≡_ {A = ℕ} 0 1 = cc in absurd (omega arith)
-verdict-refused (refused s) r e = let q : s ≡ r = cc in ap refused q
+-- What the answer to a D line tells.
 
 pub entry-named : (o : Outcome Direct) (y : Direct) → entryOf o ≡ Named y → o ≡ accepted y
 entry-named (accepted x) y e = let q : x ≡ y = cc in ap accepted q

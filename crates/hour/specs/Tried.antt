@@ -28,17 +28,10 @@ use Rattle.hour.specs.declared.Spot.the-variants.{At, Nowhere}
 use Rattle.hour.specs.declared.Pair.{Pair}
 use Rattle.hour.specs.declared.Pair.the-variants.{Both, Missing}
 use Rattle.hour.specs.declared.DirectLine.{DirectLine}
-use Rattle.hour.specs.declared.Verdict.{Verdict}
-use Rattle.hour.specs.declared.Verdict.the-variants.{Accepted, Refused}
 use Rattle.hour.specs.declared.Entry.{Entry}
 use Rattle.hour.specs.declared.Entry.the-variants.{Named, Unnamed}
 
--- What the code answers.
-
-abbrev pub verdictOf : {A : Type 0} → Outcome A → Verdict
-verdictOf (accepted a) = Accepted
-verdictOf (refused r) = Refused r
-
+-- What the code answers to a D line.
 abbrev pub entryOf : Outcome Direct → Entry
 entryOf (accepted x) = Named x
 entryOf (refused r) = Unnamed r

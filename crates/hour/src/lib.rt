@@ -4,10 +4,11 @@ ghost use mathlib.Core.Path.{_≡_};
 ghost use mathlib.Core.Bool.{_&&_};
 ghost use Prim.Native.Nat.{_+_, _≤_, _<_};
 ghost use lib.Dec.{eqb};
+ghost use Rattle.rules.specs.Answers.{verdictOf};
 ghost use Rattle.rules.specs.Units.{generation, ordered, levelled};
 ghost use Rattle.rules.specs.Reading.{generated, delivered, finished};
 ghost use Rattle.hour.specs.Keys.{halfOf, keyOf, sameKey, keyFound};
-ghost use Rattle.hour.specs.Tried.{verdictOf, entryOf, countsOf, Few, nextLine, labelTried, sourceTried, deliveryTried, unitHigh, basisCode, codeLeaves, belowMost, pairFound, directTried, generatedTo, deliveredTo};
+ghost use Rattle.hour.specs.Tried.{entryOf, countsOf, Few, nextLine, labelTried, sourceTried, deliveryTried, unitHigh, basisCode, codeLeaves, belowMost, pairFound, directTried, generatedTo, deliveredTo};
 use rules::Basis;
 use rules::Delivery;
 use rules::Direct;
@@ -17,11 +18,7 @@ use rules::Plant;
 use rules::Refusal;
 use rules::Source;
 use rules::Unit;
-
-pub enum Verdict {
-    Accepted,
-    Refused(Refusal),
-}
+use rules::Verdict;
 
 // A D line's entry, or why there is none.
 pub enum Entry {
@@ -134,7 +131,7 @@ fn in_order(u: Unit) -> bool
     ensures { λ r. ⌜ r ≡ ordered u ⌝ }
 {
     let c = u.curve;
-    if u.e < c.k {
+    if u.e < c.k() {
         return false;
     }
     if u.o < u.e {

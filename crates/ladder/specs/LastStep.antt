@@ -6,34 +6,55 @@ use mathlib.Core.Option.{Option, none, some}
 use mathlib.Core.Path.{_≡_, refl, sym, ap, _∙_}
 use Prim.Native.Nat.{ℕ, _+_, _-_, _≤_, _<_, min}
 use native.Mathlib.Decide.{decLt, ℕ-discrete}
+use native.Mathlib.Nat.{le-trans}
 use native.Mathlib.Numerals.{add-one}
 use native.Mathlib.Omega.{arith}
 use borrow.Author.Tests.{lt-ltb, le-ltb}
 use lib.Dec.{ltb}
 use lib.ListN.{length, set, length-set, length-map, List·getD-map}
 use lib.Seq.{getD-set-same, getD-set-other, ext-getD}
-use Rattle.laws.specs.Sums.{sumTo-zero, sumTo-but, sumTo-add}
+use Rattle.laws.specs.Sums.{sumTo-zero, sumTo-but, sumTo-same, sumTo-add}
 use Rattle.merit.specs.LevelNeverBelowB.{stateAt}
 use Rattle.merit.specs.OneAfterAnother.{block-then, last-steady}
-use Rattle.merit.specs.PlainMoves.{Found, next-roomy, lowered-room}
-use Rattle.merit.specs.RemainderMoves.{down, room-last}
-use Rattle.rules.specs.Group.{noRunning, room, emergency, last, lowered, dearerAverage, better, next, plain, lastStep, all, toEmergency}
+use Rattle.merit.specs.PlainMoves.{Found, next-roomy, lowered-room, unit-room-most, lowered-unit-room}
+use Rattle.merit.specs.RemainderMoves.{down, room-last, emergency-leaves}
+use Rattle.rules.specs.Group.{noRunning, room, emergency, last, lowered, unitRoom, dearerAverage, better, next, plain, lastStep, all, toEmergency}
+use Rattle.rules.specs.Group as group
+use Rattle.rules.specs.Units.{isUnit}
 use Rattle.rules.specs.Words.{if_then_else_}
+use Rattle.rules.specs.declared.Plant.{Plant}
+use Rattle.rules.specs.declared.Plant.the-variants.{Unit as U, Purchase as P, Fixed as F}
 use Rattle.rules.specs.declared.Running.{Running}
+use Rattle.rules.specs.declared.Unit as unit
 use Rattle.shift.specs.Ready.{Ready, AllReady, Shifted, shift-ready}
+
+-- The room of units alone.
+
+module _ (s : Running) where
+  pub unit-room : (u : unit.Unit) (r : ℕ) → s .plant ≡ U u → r ≡ room last s → r ≡ unitRoom s
+  unfolding group.unitRoom
+  unit-room u r e f = f ∙ sym (ap (λ (p : Plant). if isUnit p then room last s else 0) e)
+
+  pub purchase-room : (g rate : ℕ) → s .plant ≡ P g rate → 0 ≡ unitRoom s
+  unfolding group.unitRoom
+  purchase-room g rate e = rw e
+
+  pub fixed-room : (g : ℕ) → s .plant ≡ F g → 0 ≡ unitRoom s
+  unfolding group.unitRoom
+  fixed-room g e = rw e
 
 -- The search: whether a source goes before the one found, if one was.
 abbrev pub before : Bool → Running → Running → Bool
-before found s t = ltb 0 (room last s) && (if found then dearerAverage s t else true)
+before found s t = ltb 0 (unitRoom s) && (if found then dearerAverage s t else true)
 
-pub before-none : (r : ℕ) (found : Bool) (s t : Running) → r ≡ room last s → r ≡ 0 → false ≡ before found s t
-before-none r found s t e h = rw (le-ltb 0 (room last s) (omega arith))
+pub before-none : (r : ℕ) (found : Bool) (s t : Running) → r ≡ unitRoom s → r ≡ 0 → false ≡ before found s t
+before-none r found s t e h = rw (le-ltb 0 (unitRoom s) (omega arith))
 
-pub before-first : (r : ℕ) (found : Bool) (s t : Running) → r ≡ room last s → r ≢ 0 → found ≡ false → true ≡ before found s t
-before-first r found s t e h f = rw (lt-ltb 0 (room last s) (omega arith), f)
+pub before-first : (r : ℕ) (found : Bool) (s t : Running) → r ≡ unitRoom s → r ≢ 0 → found ≡ false → true ≡ before found s t
+before-first r found s t e h f = rw (lt-ltb 0 (unitRoom s) (omega arith), f)
 
-pub before-other : (r : ℕ) (found : Bool) (s t : Running) → r ≡ room last s → r ≢ 0 → found ≡ true → dearerAverage s t ≡ before found s t
-before-other r found s t e h f = rw (lt-ltb 0 (room last s) (omega arith), f)
+pub before-other : (r : ℕ) (found : Bool) (s t : Running) → r ≡ unitRoom s → r ≢ 0 → found ≡ true → dearerAverage s t ≡ before found s t
+before-other r found s t e h f = rw (lt-ltb 0 (unitRoom s) (omega arith), f)
 
 -- the source found, n where none has room
 pub record Chosen (ss : List Running) (n i : ℕ) : Type 0 where
@@ -53,7 +74,7 @@ module _ (ss : List Running) (i : ℕ) where
   -- after none
   first-found : (t : Running) (b : Bool) → before false (stateAt ss i) t ≡ b → better lastStep ss i none ≡ (if b then some i else none)
   unfolding better
-  first-found t b e = go (ltb 0 (room last (stateAt ss i))) e
+  first-found t b e = go (ltb 0 (unitRoom (stateAt ss i))) e
     where
       go : (x : Bool) → (x && true) ≡ b → (if x then some i else none) ≡ (if b then some i else none)
       go true e = ap (λ (y : Bool). if y then some i else none) e
@@ -96,7 +117,7 @@ module _ (ss : List Running) (n : ℕ) where
 pub record Stepping (ss₀ : List Running) (n total : ℕ) (ss : List Running) (rest : ℕ) : Type 0 where
   pub long : length ss ≡ 32
   pub ready : (i : ℕ) → Ready (stateAt ss i)
-  pub enough : rest ≤ all (room last) ss n
+  pub enough : rest ≤ all unitRoom ss n
   pub same : plain lastStep n ss₀ total ≡ plain lastStep n ss rest
 
 -- a source of which k MWh are lowered
@@ -107,13 +128,13 @@ lowerAt ss i k = set ss i (lowered (stateAt ss i) k)
 pub record Given (ss : List Running) (rest i k : ℕ) : Type 0 where
   pub some : 0 < k
   pub within : k ≤ rest
-  pub room : k ≤ room last (stateAt ss i)
+  pub room : k ≤ unitRoom (stateAt ss i)
 
-pub stepping-start : (ss : List Running) (n total : ℕ) → length ss ≡ 32 → AllReady ss n → total ≤ all (room last) ss n → Stepping ss n total ss total
+pub stepping-start : (ss : List Running) (n total : ℕ) → length ss ≡ 32 → AllReady ss n → total ≤ all unitRoom ss n → Stepping ss n total ss total
 stepping-start ss n total long r h = record { long = long; ready = r .ready; enough = h; same = refl }
 
 module _ {ss₀ ss : List Running} {n total rest : ℕ} (s : Stepping ss₀ n total ss rest) where
-  roomy : (i : ℕ) → next lastStep ss n ≡ some i → 0 < room last (stateAt ss i)
+  roomy : (i : ℕ) → next lastStep ss n ≡ some i → 0 < unitRoom (stateAt ss i)
   roomy i e = let f : Found lastStep ss (λ i j. Unit) n (some i) = rw e at (next-roomy lastStep ss n) in f .room
 
   -- while a rest is left, one is found
@@ -123,11 +144,11 @@ module _ {ss₀ ss : List Running} {n total rest : ℕ} (s : Stepping ss₀ n to
     | no l ↦ (
         let e : next lastStep ss n ≡ none = c .none-left (omega (arith, c .within)) in
         let f : Found lastStep ss (λ i j. Unit) n none = rw e at (next-roomy lastStep ss n) in
-        let none-left : all (room last) ss n ≡ 0 = sumTo-zero n (λ j. room last (stateAt ss j)) (λ j m. elim (decLt 0 (room last (stateAt ss j))) [ yes y ↦ absurd (f j m y) | no y ↦ omega arith ]) in
+        let none-left : all unitRoom ss n ≡ 0 = sumTo-zero n (λ j. unitRoom (stateAt ss j)) (λ j m. elim (decLt 0 (unitRoom (stateAt ss j))) [ yes y ↦ absurd (f j m y) | no y ↦ omega arith ]) in
         absurd (omega (arith, s .enough)))
   ]
 
-  pub chosen-given : (i k : ℕ) → 0 < rest → Chosen ss n i → k ≡ min (room last (stateAt ss i)) rest → Given ss rest i k
+  pub chosen-given : (i k : ℕ) → 0 < rest → Chosen ss n i → k ≡ min (unitRoom (stateAt ss i)) rest → Given ss rest i k
   chosen-given i k z c e =
       let r = roomy i (c .one-left (chosen-there i z c)) in
       record { some = omega arith; within = omega arith; room = omega arith }
@@ -136,7 +157,7 @@ module _ {ss₀ ss : List Running} {n total rest : ℕ} (s : Stepping ss₀ n to
   stepping-more i k small z c g = record {
     long = length-set ss i (lowered (stateAt ss i) k) ∙ s .long;
     ready = λ j. elim (ℕ-discrete j i) [
-      | yes e ↦ rw (e, put) (shift-ready (s .ready i) (down k (g .room)))
+      | yes e ↦ rw (e, put) (shift-ready (s .ready i) (down k (le-trans (g .room) (unit-room-most (stateAt ss i)))))
       | no e ↦ rw (kept j e) (s .ready j)
     ];
     enough =
@@ -145,8 +166,8 @@ module _ {ss₀ ss : List Running} {n total rest : ℕ} (s : Stepping ss₀ n to
           g .within,
           g .room,
           s .enough,
-          ap (room last) put ∙ lowered-room last (stateAt ss i) k,
-          sumTo-but n (λ j. room last (stateAt ss j)) (λ j. room last (stateAt (lowerAt ss i k) j)) i l (λ j m ne. ap (room last) (kept j ne)),
+          ap unitRoom put ∙ lowered-unit-room (stateAt ss i) k,
+          sumTo-but n (λ j. unitRoom (stateAt ss j)) (λ j. unitRoom (stateAt (lowerAt ss i k) j)) i l (λ j m ne. ap unitRoom (kept j ne)),
         );
     same =
         let q : k + (rest - k) ≡ rest = omega (arith, g .within) in
@@ -189,9 +210,10 @@ module _ (ss : List Running) (n : ℕ) (r : AllReady ss n) where
     ready = λ i. rw (emergency-at ss i) (shift-ready (r .ready i) (down (emergencyRoom ss i) (room-last emergency (stateAt ss i))));
   }
 
-  pub emergency-enough : (total : ℕ) → total + all (room emergency) ss n ≤ all (room last) ss n → total ≤ all (room last) (toEmergency ss) n
+  pub emergency-enough : (total : ℕ) → total + all (room emergency) ss n ≤ all (room last) ss n → total ≤ all unitRoom (toEmergency ss) n
   emergency-enough total h = omega (
     arith,
+    sumTo-same n (λ i. unitRoom (stateAt (toEmergency ss) i)) (λ i. room last (stateAt (toEmergency ss) i)) (λ i l. emergency-leaves ss i),
     sumTo-add n (λ i. room last (stateAt (toEmergency ss) i)) (emergencyRoom ss) (λ i. room last (stateAt ss i))
         (λ i l. omega (arith, ap (room last) (emergency-at ss i) ∙ lowered-room last (stateAt ss i) (emergencyRoom ss i), room-last emergency (stateAt ss i))),
   )

@@ -21,18 +21,18 @@ use Rattle.marks.specs.Lines.{at}
 use Rattle.merit.specs.LevelNeverBelowB.{stateAt}
 use Rattle.merit.specs.PricesRise.{price}
 use Rattle.merit.specs.RemainderMoves.{room-open}
-use Rattle.rules.specs.Group.{noRunning, level, room, normal, oil, emergency, last, headroom, unloading, crediting, lastStep, plain, all}
+use Rattle.rules.specs.Group.{noRunning, level, room, normal, oil, emergency, last, headroom, unloading, crediting, plain, all}
 use Rattle.rules.specs.Group as Group
 use Rattle.rules.specs.Words.{sumTo}
 use Rattle.rules.specs.declared.Running.{Running}
 use Rattle.shift.specs.Ready.{stepOf, Ready, Within, AllReady, AllWithin, Shifted, lowered-within, raised-within}
 
--- the last step goes by averages, the others by prices
+-- of the last step the room alone, above its floors; it goes by averages (LastStep), the others by prices
 abbrev pub downOf : Rung → Group.Way
 downOf Normal = unloading normal
 downOf Oil = unloading oil
 downOf Emergency = unloading emergency
-downOf Last = lastStep
+downOf Last = unloading last
 
 abbrev pub wayOf : Way → Group.Way
 wayOf (Down x) = downOf x

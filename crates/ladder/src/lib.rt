@@ -1,10 +1,11 @@
 // A remainder's ways: the room of a source and of all, by each, and a source's line; and the ladder's last step.
 // The contracts cite rules' Group: `all`, `plain`, `lastStep` and `toEmergency`, and specs/ for what an engine makes of a way's lines.
 use curve::Rung;
+use rules::Plant;
 use rules::Running;
 ghost use mathlib.Core.Path.{_≡_};
 ghost use Prim.Native.Nat.{_+_, _≤_, _<_};
-ghost use Rattle.rules.specs.Group.{all, room, emergency, last, plain, lastStep, toEmergency};
+ghost use Rattle.rules.specs.Group.{all, room, emergency, last, unitRoom, plain, lastStep, toEmergency};
 ghost use Rattle.shift.specs.Ready.{Ready, AllReady};
 ghost use Rattle.ladder.specs.Ways.{wayOf, upOf, LineSet};
 ghost use Rattle.ladder.specs.LastStep.{before, Chosen};
@@ -79,12 +80,25 @@ fn to_emergency(states: [Running; 32]) -> [Running; 32]
     after
 }
 
+// By how many MWh the last step may lower a source: a unit alone.
+fn unit_room(s: Running) -> u64
+    requires { ⌜ Ready s ⌝ }
+    ensures { λ r. ⌜ (r ≡ unitRoom s) × (r ≤ 2000) ⌝ }
+{
+    let p = s.plant;
+    match p {
+        Plant::Unit(_) => curve::room_of(s, Rung::Last) as u64,
+        Plant::Purchase { g: _, rate: _ } => 0,
+        Plant::Fixed { g: _ } => 0,
+    }
+}
+
 // Whether a source is lowered before the one found so far, if one was.
 fn goes_before(s: Running, found: bool, other: Running) -> bool
     requires { ⌜ Ready s × Ready other ⌝ }
     ensures { λ r. ⌜ r ≡ before found s other ⌝ }
 {
-    if curve::room_of(s, Rung::Last) == 0 {
+    if unit_room(s) == 0 {
         return false;
     }
     if found {
@@ -115,7 +129,7 @@ fn dearest(states: [Running; 32], n: usize) -> usize
 // One source after another, each by all that it has or that is left.
 fn last_step(states: [Running; 32], n: usize, total: u64) -> [Running; 32]
     requires { ⌜ AllReady states n ⌝ }
-    requires room { ⌜ total ≤ all (room last) states n ⌝ }
+    requires room { ⌜ total ≤ all unitRoom states n ⌝ }
     ensures { λ r. ⌜ r ≡ plain lastStep n states total ⌝ }
 {
     let mut after = states;
@@ -123,7 +137,7 @@ fn last_step(states: [Running; 32], n: usize, total: u64) -> [Running; 32]
     while 0 < rest {
         let i = dearest(after, n);
         let s = after[i];
-        let room = room_by(Way::Down(Rung::Last), s);
+        let room = unit_room(s);
         let k = marks::least(room, rest);
         after[i] = shift::shift_one(false, s, k);
         rest -= k;

@@ -3,3 +3,5 @@ pub mod Lists
 pub mod Sums
 pub mod Signed
 pub mod Parts
+pub mod Internal
+pub mod Answers

@@ -6,7 +6,6 @@ use Rattle.rules.specs.Fields.{Field, got, malformed, onField, byteAt, Place, s
 use Rattle.rules.specs.Lines as lines
 use Rattle.rules.specs.Lines.{Kind, number, basis, label, Letter, H, U, P, F, T, D, Fields, fieldsOf, push, fieldsAt, placesAt}
 use Rattle.rules.specs.declared.Basis.{Basis}
-use Rattle.rules.specs.declared.HeatCurve.{HeatCurve}
 use Rattle.text.specs.Answers.{cut, stepOf, numberField, cutBasis, basisField, labelField}
 use Rattle.text.specs.declared.Step.{Step}
 use Rattle.text.specs.declared.Step.the-variants.{At, Missing}
@@ -48,8 +47,8 @@ module _ {R : Type 0} where
   onLabel (LabelAt from upto next) after end = after (record { from = from; upto = upto }) next
   onLabel NoLabel after end = end
 
-  abbrev pub onCurve : CurveField → (HeatCurve → ℕ → R) → R → R
-  onCurve (CurveRead curve next) after end = after curve next
+  abbrev pub onCurve : CurveField → (ℕ → ℕ → ℕ → ℕ → ℕ → ℕ → R) → R → R
+  onCurve (CurveRead k a b c r next) after end = after k a b c r next
   onCurve NoCurve after end = end
 
   abbrev onGot : {A : Type 0} → Field A → (A → ℕ → R) → R → R
@@ -114,13 +113,13 @@ module _ {R : Type 0} where
 
   -- The curve in its line.
 
-  curve-then : (s : List ℕ) (at : ℕ) (after : HeatCurve → ℕ → R) (end : R)
-      → fieldsThen curveFields s at (λ (k, (a, (b, (c, (r, _))))) n. after (record { k = k; a = a; b = b; c = c; r = r }) n) end
+  curve-then : (s : List ℕ) (at : ℕ) (after : ℕ → ℕ → ℕ → ℕ → ℕ → ℕ → R) (end : R)
+      → fieldsThen curveFields s at (λ (k, (a, (b, (c, (r, _))))) n. after k a b c r n) end
       ≡ onCurve (curveField (fieldsAt curveFields s at)) after end
-  curve-then s at after end = fields-then curveFields s at (λ (k, (a, (b, (c, (r, _))))) n. after (record { k = k; a = a; b = b; c = c; r = r }) n) end ∙ go (fieldsAt curveFields s at)
+  curve-then s at after end = fields-then curveFields s at (λ (k, (a, (b, (c, (r, _))))) n. after k a b c r n) end ∙ go (fieldsAt curveFields s at)
     where
       go : (f : Field (Fields Place curveFields))
-          → onGot f (λ (k, (a, (b, (c, (r, _))))) n. after (record { k = cut k; a = cut a; b = cut b; c = cut c; r = cut r }) n) end ≡ onCurve (curveField f) after end
+          → onGot f (λ (k, (a, (b, (c, (r, _))))) n. after (cut k) (cut a) (cut b) (cut c) (cut r) n) end ≡ onCurve (curveField f) after end
       go (got v n) = refl
       go malformed = refl
 
@@ -130,11 +129,11 @@ module _ (s : List ℕ) (at : ℕ) where
   pub head-chain : headLine (placesAt s at H) ≡ lineThen H s at (λ (losses, _) next. HeadRead losses next) NoHead
   head-chain = line-then H headLine (λ (losses, _) next. HeadRead losses next) (λ v n. refl) s at
 
-  pub curve-chain : curveField (fieldsAt curveFields s at) ≡ fieldsThen curveFields s at (λ (k, (a, (b, (c, (r, _))))) next. CurveRead (record { k = k; a = a; b = b; c = c; r = r }) next) NoCurve
+  pub curve-chain : curveField (fieldsAt curveFields s at) ≡ fieldsThen curveFields s at (λ (k, (a, (b, (c, (r, _))))) next. CurveRead k a b c r next) NoCurve
   curve-chain = sym (curve-then s at CurveRead NoCurve ∙ go (curveField (fieldsAt curveFields s at)))
     where
       go : (f : CurveField) → onCurve f CurveRead NoCurve ≡ f
-      go (CurveRead curve next) = refl
+      go (CurveRead k a b c r next) = refl
       go NoCurve = refl
 
   -- the unit's levels before its curve, and its label and LF after it
@@ -146,16 +145,16 @@ module _ (s : List ℕ) (at : ℕ) where
       onNumber (numberField (spacedNumber s c)) (λ o d.
       onNumber (numberField (spacedNumber s d)) (after g h n o) NoUnit) NoUnit) NoUnit) NoUnit) NoUnit
 
-  abbrev pub unitEnds : ℕ → ℕ → ℕ → ℕ → ℕ → HeatCurve → ℕ → UnitLine
-  unitEnds g h n o e curve p =
+  abbrev pub unitEnds : ℕ → ℕ → ℕ → ℕ → ℕ → ℕ → ℕ → ℕ → ℕ → ℕ → ℕ → UnitLine
+  unitEnds g h n o e k a b c r p =
       onLabel (labelField (spacedLabel s p)) (λ name q.
-      onStep (stepOf (byteAt s q 10)) (UnitRead (record { g = g; h = h; n = n; o = o; e = e; curve = curve }) (name .from) (name .upto)) NoUnit) NoUnit
+      onStep (stepOf (byteAt s q 10)) (UnitRead (record { g = g; h = h; n = n; o = o; e = e; k = k; a = a; b = b; c = c; r = r }) (name .from) (name .upto)) NoUnit) NoUnit
 
   pub unit-chain : unitLine (placesAt s at U) ≡ levelsThen (λ g h n o e p. onCurve (curveField (fieldsAt curveFields s p)) (unitEnds g h n o e) NoUnit)
   unit-chain =
       line-then U unitLine
       (λ (g, (h, (n, (o, (e, (k, (a, (b, (c, (r, (name, _))))))))))) next.
-      UnitRead (record { g = g; h = h; n = n; o = o; e = e; curve = record { k = k; a = a; b = b; c = c; r = r } }) (name .from) (name .upto) next)
+      UnitRead (record { g = g; h = h; n = n; o = o; e = e; k = k; a = a; b = b; c = c; r = r }) (name .from) (name .upto) next)
       (λ v n. refl) s at
       ∙ (λ i. levelsThen (λ g h n o e p. curve-then s p (unitEnds g h n o e) NoUnit i))
 

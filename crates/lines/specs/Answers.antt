@@ -28,13 +28,13 @@ abbrev pub curveFields : List Kind
 curveFields = number unitLevel ∷ number coefficientA ∷ number coefficientB ∷ number coefficientC ∷ number heatRate ∷ []
 
 abbrev pub curveField : Field (Fields Place curveFields) → CurveField
-curveField (got (k, (a, (b, (c, (r, _))))) next) = CurveRead (record { k = cut k; a = cut a; b = cut b; c = cut c; r = cut r }) next
+curveField (got (k, (a, (b, (c, (r, _))))) next) = CurveRead (cut k) (cut a) (cut b) (cut c) (cut r) next
 curveField malformed = NoCurve
 
 abbrev pub unitLine : Field (Fields Place (fieldsOf U)) → UnitLine
 unitLine (got (g, (h, (n, (o, (e, (k, (a, (b, (c, (r, (label, _))))))))))) next) =
     UnitRead
-    (record { g = cut g; h = cut h; n = cut n; o = cut o; e = cut e; curve = record { k = cut k; a = cut a; b = cut b; c = cut c; r = cut r } })
+    (record { g = cut g; h = cut h; n = cut n; o = cut o; e = cut e; k = cut k; a = cut a; b = cut b; c = cut c; r = cut r })
     (label .from) (label .upto) next
 unitLine malformed = NoUnit
 

@@ -3,9 +3,8 @@
 ghost use mathlib.Core.Path.{_≡_};
 ghost use Rattle.rules.specs.Lines.{H as headLetter, U, P, F, T, D, fieldsAt, placesAt};
 ghost use Rattle.lines.specs.Answers.{headLine, curveFields, curveField, unitLine, purchaseLine, fixedLine, deliveryLine, directLine};
+use ranges::UnitNumbers;
 use rules::Basis;
-use rules::HeatCurve;
-use rules::Unit;
 use text::BasisField;
 use text::LabelField;
 use text::NumberField;
@@ -19,14 +18,14 @@ pub enum HeadLine {
     Malformed,
 }
 
-// internal: used by the unit's reader
+// The curve's start, its coefficients A, B and C, and the rate R.
 enum CurveField {
-    Read(HeatCurve, usize),
+    Read(u32, u32, u32, u32, u32, usize),
     Malformed,
 }
 
 pub enum UnitLine {
-    Read(Unit, usize, usize, usize),
+    Read(UnitNumbers, usize, usize, usize),
     Malformed,
 }
 
@@ -60,13 +59,13 @@ pub fn head(s: &[u8], at: usize) -> HeadLine
     let NumberField::Number(losses, p) = text::spaced_number(s, at) else {
         return HeadLine::Malformed;
     };
-    let Step::At(next) = text::byte(s, p, 10) else {
+    let Step::At(next) = text::byte(s, p, b'\n') else {
         return HeadLine::Malformed;
     };
     HeadLine::Read(losses, next)
 }
 
-// internal: the last five numbers of a unit's line
+// The last five numbers of a unit's line.
 fn curve_at(s: &[u8], at: usize) -> CurveField
     ensures { λ r. ⌜ r ≡ curveField (fieldsAt curveFields (now (s .entry)) at) ⌝ }
 {
@@ -85,7 +84,7 @@ fn curve_at(s: &[u8], at: usize) -> CurveField
     let NumberField::Number(r, next) = text::spaced_number(s, p4) else {
         return CurveField::Malformed;
     };
-    CurveField::Read(HeatCurve { k, a, b, c, r }, next)
+    CurveField::Read(k, a, b, c, r, next)
 }
 
 pub fn unit(s: &[u8], at: usize) -> UnitLine
@@ -106,24 +105,28 @@ pub fn unit(s: &[u8], at: usize) -> UnitLine
     let NumberField::Number(e, p5) = text::spaced_number(s, p4) else {
         return UnitLine::Malformed;
     };
-    let CurveField::Read(curve, p6) = curve_at(s, p5) else {
+    let CurveField::Read(k, a, b, c, r, p6) = curve_at(s, p5) else {
         return UnitLine::Malformed;
     };
     let LabelField::At(from, upto, p7) = text::spaced_label(s, p6) else {
         return UnitLine::Malformed;
     };
-    let Step::At(next) = text::byte(s, p7, 10) else {
+    let Step::At(next) = text::byte(s, p7, b'\n') else {
         return UnitLine::Malformed;
     };
-    let u = Unit {
+    let x = UnitNumbers {
         g,
         h,
         n,
         o,
         e,
-        curve,
+        k,
+        a,
+        b,
+        c,
+        r,
     };
-    UnitLine::Read(u, from, upto, next)
+    UnitLine::Read(x, from, upto, next)
 }
 
 pub fn purchase(s: &[u8], at: usize) -> PurchaseLine
@@ -138,7 +141,7 @@ pub fn purchase(s: &[u8], at: usize) -> PurchaseLine
     let LabelField::At(from, upto, d) = text::spaced_label(s, q) else {
         return PurchaseLine::Malformed;
     };
-    let Step::At(next) = text::byte(s, d, 10) else {
+    let Step::At(next) = text::byte(s, d, b'\n') else {
         return PurchaseLine::Malformed;
     };
     PurchaseLine::Read(g, rate, from, upto, next)
@@ -153,7 +156,7 @@ pub fn fixed(s: &[u8], at: usize) -> FixedLine
     let LabelField::At(from, upto, d) = text::spaced_label(s, p) else {
         return FixedLine::Malformed;
     };
-    let Step::At(next) = text::byte(s, d, 10) else {
+    let Step::At(next) = text::byte(s, d, b'\n') else {
         return FixedLine::Malformed;
     };
     FixedLine::Read(g, from, upto, next)
@@ -177,7 +180,7 @@ pub fn delivery(s: &[u8], at: usize) -> DeliveryLine
     let LabelField::At(from, upto, d) = text::spaced_label(s, p4) else {
         return DeliveryLine::Malformed;
     };
-    let Step::At(next) = text::byte(s, d, 10) else {
+    let Step::At(next) = text::byte(s, d, b'\n') else {
         return DeliveryLine::Malformed;
     };
     DeliveryLine::Read(sequence, kind, block, mwh, from, upto, next)
@@ -198,7 +201,7 @@ pub fn direct(s: &[u8], at: usize) -> DirectLine
     let LabelField::At(begin, end, f) = text::spaced_label(s, d) else {
         return DirectLine::Malformed;
     };
-    let Step::At(next) = text::byte(s, f, 10) else {
+    let Step::At(next) = text::byte(s, f, b'\n') else {
         return DirectLine::Malformed;
     };
     DirectLine::Read(basis, percent, from, upto, begin, end, next)

@@ -5,17 +5,18 @@ use mathlib.Core.Path.{_≡_, refl, sym, ap, _∙_}
 use Prim.Native.Nat.{ℕ, suc, _+_, _-_, _*_, _≤_, _<_}
 use native.Mathlib.Decide.{decLt}
 use native.Mathlib.Omega.{arith}
-use borrow.Author.Tests.{eqb-true, eq-eqb}
 use lib.IntN.{ℤ, pos}
 use lib.ListN.{length, getD}
 use Rattle.amounts.specs.Amounts.{told}
 use Rattle.balance.specs.AnswerCells.{cellAt}
+use Rattle.laws.specs.Internal.{number-same, number-itself}
 use Rattle.laws.specs.Sums.{below-suc, sumTo-zero}
 use Rattle.members.specs.Live.{amountAt, amount-told}
 use Rattle.members.specs.Members.{MwhsSmall, MwhsOf, scheduledIn, shareIn, dueIn, RowsGiven, RowsWritten, earlier, mwhs-small, scheduled-in}
 use Rattle.members.specs.Shared.{placeOf, place-small, each-place, cellsIn, DeliveriesSmall}
 use Rattle.rules.specs.Group.{Item, Amount}
 use Rattle.rules.specs.Hour.{internalAt, member, scheduled, counted, share}
+use Rattle.rules.specs.Sequences.{sameNumber}
 use Rattle.rules.specs.declared.Hour.{Hour}
 use Rattle.rules.specs.declared.InternalSequence.{InternalSequence}
 use Rattle.shares.specs.Sharing.{member-share}
@@ -24,7 +25,7 @@ never : {b : Bool} → b ≡ true → b ≡ false → ⊥
 never e f = let z : _≡_ {A = ℕ} 0 1 = cc in omega arith
 
 -- the first of n deliveries whose number is x
-pub record Lead (ns : List InternalSequence) (n x j : ℕ) : Type 0 where
+pub record Lead (ns : List InternalSequence) (n : ℕ) (x : InternalSequence) (j : ℕ) : Type 0 where
   pub within : j < n
   pub number : member ns x j ≡ true
   pub first : (k : ℕ) → k < j → member ns x k ≡ false
@@ -51,11 +52,14 @@ pub record AllShared (sources n : ℕ) (ms : List ℕ) (ns : List InternalSequen
   pub beyond : (p : ℕ) → n * (sources * 4) ≤ p → cellAt ys p ≡ cellAt xs p
 
 -- one delivery, two numbers: they are the same
-both-members : (ns : List InternalSequence) (x y k : ℕ) → member ns x k ≡ true → member ns y k ≡ true → x ≡ y
-both-members ns x y k e f = sym (eqb-true (internalAt ns k) x e) ∙ eqb-true (internalAt ns k) y f
+both-members : (ns : List InternalSequence) (x y : InternalSequence) (k : ℕ) → member ns x k ≡ true → member ns y k ≡ true → x ≡ y
+both-members ns x y k e f = sym (number-same (internalAt ns k) x e) ∙ number-same (internalAt ns k) y f
+
+same-member : (x y : InternalSequence) → x ≡ y → sameNumber x y ≡ true
+same-member x y e = rw e (number-itself y)
 
 -- where none is a member, none is counted
-pub lead-none : (ns : List InternalSequence) (n x : ℕ) → ((k : ℕ) → k < n → member ns x k ≡ false) → counted ns x n ≡ 0
+pub lead-none : (ns : List InternalSequence) (n : ℕ) (x : InternalSequence) → ((k : ℕ) → k < n → member ns x k ≡ false) → counted ns x n ≡ 0
 lead-none ns n x h = sumTo-zero n _ (λ k l. rw (h k l))
 
 -- The groups that are led, in deck order of their leads.
@@ -95,7 +99,7 @@ module _ (sources n : ℕ) (ms : List ℕ) (ns : List InternalSequence) (led dir
       where
         go : (b : Bool) → member ns (internalAt ns i) k ≡ b → b ≡ false
         go true f =
-            absurd (never (eq-eqb (internalAt ns i) (internalAt ns j) (both-members ns (internalAt ns i) (internalAt ns j) k f e)) (g .leads j l some .lead .first i m))
+            absurd (never (same-member (internalAt ns i) (internalAt ns j) (both-members ns (internalAt ns i) (internalAt ns j) k f e)) (g .leads j l some .lead .first i m))
         go false f = refl
 
     pub leading-given : (t : ℕ) (ys : List ℤ) → t ≡ getD led j 0 - 1 → Leading sources n ms ns led direct moved xs j ys

@@ -22,7 +22,7 @@ use Rattle.rules.specs.declared.InternalSequence.{InternalSequence}
 -- The group's MWh and members.
 
 -- the MWh of the group's members among the first j of the deliveries, whose MWh are ms
-abbrev pub scheduledIn : List ℕ → List InternalSequence → ℕ → ℕ → ℕ
+abbrev pub scheduledIn : List ℕ → List InternalSequence → InternalSequence → ℕ → ℕ
 scheduledIn ms ns x j = sumTo (λ i. if member ns x i then getD ms i 0 else 0) j
 
 -- n deliveries' MWh, at most 64,000 together
@@ -34,7 +34,7 @@ member-most : (y : Bool) (m n : ℕ) → m ≤ n → (if y then m else 0) ≤ n
 member-most true m n l = l
 member-most false m n l = omega arith
 
-module _ (ms : List ℕ) (ns : List InternalSequence) (x : ℕ) where
+module _ (ms : List ℕ) (ns : List InternalSequence) (x : InternalSequence) where
   pub scheduled-small : (n : ℕ) → MwhsSmall ms n → (j : ℕ) → j ≤ n → scheduledIn ms ns x j ≤ j * 2000
   scheduled-small n d j l = sumTo-bound _ 2000 j (λ i m. member-most (member ns x i) (getD ms i 0) 2000 (d .mwh i (omega arith)))
 
@@ -47,7 +47,7 @@ module _ (ms : List ℕ) (ns : List InternalSequence) (x : ℕ) where
   pub scheduled-skip : (j m : ℕ) → member ns x j ≡ false → m ≡ scheduledIn ms ns x j → m ≡ scheduledIn ms ns x (j + 1)
   scheduled-skip j m e s = omega (arith, sumTo-more (λ i. if member ns x i then getD ms i 0 else 0) j m 0 s (rw e))
 
-module _ (ns : List InternalSequence) (x : ℕ) where
+module _ (ns : List InternalSequence) (x : InternalSequence) where
   pub counted-small : (j : ℕ) → counted ns x j ≤ j
   counted-small j = omega (arith, sumTo-bound (λ i. if member ns x i then 1 else 0) 1 j (λ i m. member-most (member ns x i) 1 1 (omega arith)))
 
@@ -60,7 +60,7 @@ module _ (ns : List InternalSequence) (x : ℕ) where
 -- The rows.
 
 -- group x of `total` MWh, with room for n rows of a width; nothing stands in its members' rows
-pub record RowsGiven (width n : ℕ) (ms : List ℕ) (ns : List InternalSequence) (x total : ℕ) (a : ℕ → Amount) (xs : List ℤ) : Type 0 where
+pub record RowsGiven (width n : ℕ) (ms : List ℕ) (ns : List InternalSequence) (x : InternalSequence) (total : ℕ) (a : ℕ → Amount) (xs : List ℤ) : Type 0 where
   pub mwhs : MwhsSmall ms n
   pub narrow : width ≤ 128
   pub room : n * width ≤ length xs
@@ -69,23 +69,23 @@ pub record RowsGiven (width n : ℕ) (ms : List ℕ) (ns : List InternalSequence
   pub blank : (k q : ℕ) → k < n → member ns x k ≡ true → q < width → cellAt xs (k * width + q) ≡ pos 0
 
 -- what member k has of the amount at place q: what is more with it
-abbrev pub shareIn : List ℕ → List InternalSequence → ℕ → ℕ → (ℕ → Amount) → ℕ → ℕ → ℤ
+abbrev pub shareIn : List ℕ → List InternalSequence → InternalSequence → ℕ → (ℕ → Amount) → ℕ → ℕ → ℤ
 shareIn ms ns x total a k q =
     signed (a q .minus)
     (upTo total (a q .size) (counted ns x k + 1) (scheduledIn ms ns x k + getD ms k 0) - upTo total (a q .size) (counted ns x k) (scheduledIn ms ns x k))
 
 -- what is to stand at place q of delivery k's row, where z stood
-abbrev pub dueIn : List ℕ → List InternalSequence → ℕ → ℕ → (ℕ → Amount) → ℕ → ℕ → ℤ → ℤ
+abbrev pub dueIn : List ℕ → List InternalSequence → InternalSequence → ℕ → (ℕ → Amount) → ℕ → ℕ → ℤ → ℤ
 dueIn ms ns x total a k q z = if member ns x k then shareIn ms ns x total a k q else z
 
 -- each row has what is due, and the rest stays
-pub record RowsWritten (width n : ℕ) (ms : List ℕ) (ns : List InternalSequence) (x total : ℕ) (a : ℕ → Amount) (xs ys : List ℤ) : Type 0 where
+pub record RowsWritten (width n : ℕ) (ms : List ℕ) (ns : List InternalSequence) (x : InternalSequence) (total : ℕ) (a : ℕ → Amount) (xs ys : List ℤ) : Type 0 where
   pub long : length ys ≡ length xs
   pub rows : (k q : ℕ) → q < width → k < n → cellAt ys (k * width + q) ≡ dueIn ms ns x total a k q (cellAt xs (k * width + q))
   pub beyond : (p : ℕ) → n * width ≤ p → cellAt ys p ≡ cellAt xs p
 
 -- after the first j deliveries: `count` members among them, with `mwh` MWh together
-pub record Going (width : ℕ) (ms : List ℕ) (ns : List InternalSequence) (x total : ℕ) (a : ℕ → Amount) (xs : List ℤ) (j count mwh : ℕ) (had : List ℕ) (ys : List ℤ) : Type 0 where
+pub record Going (width : ℕ) (ms : List ℕ) (ns : List InternalSequence) (x : InternalSequence) (total : ℕ) (a : ℕ → Amount) (xs : List ℤ) (j count mwh : ℕ) (had : List ℕ) (ys : List ℤ) : Type 0 where
   pub counts : count ≡ counted ns x j
   pub mwhs : mwh ≡ scheduledIn ms ns x j
   pub had-long : length had ≡ 128
@@ -98,7 +98,7 @@ pub record Going (width : ℕ) (ms : List ℕ) (ns : List InternalSequence) (x t
 pub earlier : (k j w q : ℕ) → k < j → q < w → k * w + q < j * w
 earlier k j w q l m = let h : (k + 1) * w ≤ j * w = mul-le-mul (omega arith) (omega arith) in omega arith
 
-module _ (w n : ℕ) (ms : List ℕ) (ns : List InternalSequence) (x total : ℕ) (a : ℕ → Amount) (xs : List ℤ) (g : RowsGiven w n ms ns x total a xs) where
+module _ (w n : ℕ) (ms : List ℕ) (ns : List InternalSequence) (x : InternalSequence) (total : ℕ) (a : ℕ → Amount) (xs : List ℤ) (g : RowsGiven w n ms ns x total a xs) where
   abbrev At : ℕ → ℕ → ℕ → List ℕ → List ℤ → Type 0
   At = Going w ms ns x total a xs
 
@@ -185,7 +185,7 @@ module _ (h : Hour) (ms : List ℕ) (m : MwhsOf h ms) where
   pub mwhs-small : DeliveriesSmall h → MwhsSmall ms (h .ndeliveries)
   mwhs-small d = record { few = d .few; mwh = λ j l. omega (arith, m .mwh j l, d .mwh j l) }
 
-  module _ (ns : List InternalSequence) (x : ℕ) where
+  module _ (ns : List InternalSequence) (x : InternalSequence) where
     pub scheduled-in : (j : ℕ) → j ≤ h .ndeliveries → scheduledIn ms ns x j ≡ scheduled h ns x j
     scheduled-in j l = sumTo-same j _ _ (λ i o. ap (λ (y : ℕ). if member ns x i then y else 0) (m .mwh i (omega arith)))
 

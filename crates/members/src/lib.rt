@@ -13,7 +13,12 @@ ghost use Rattle.members.specs.Rows.{RowReady, RowFits, Row};
 ghost use Rattle.members.specs.Members.{MwhsSmall, scheduledIn, RowsGiven, RowsWritten};
 
 // The group's MWh.
-pub fn total_of(mwhs: &[u64; 32], n: usize, numbers: [InternalSequence; 32], number: u32) -> u64
+pub fn total_of(
+    mwhs: &[u64; 32],
+    n: usize,
+    numbers: [InternalSequence; 32],
+    number: InternalSequence,
+) -> u64
     requires { ⌜ MwhsSmall (now mwhs) n ⌝ }
     ensures { λ r. ⌜ (r ≡ scheduledIn (now (mwhs .entry)) numbers number n) × (r ≤ 64_000) ⌝ }
 {
@@ -21,7 +26,7 @@ pub fn total_of(mwhs: &[u64; 32], n: usize, numbers: [InternalSequence; 32], num
     let mut j = 0;
     while j < n {
         let x = numbers[j];
-        if x.0 == number {
+        if sequence::same_number(x, number) {
             sum += mwhs[j];
         }
         j += 1;
@@ -30,14 +35,14 @@ pub fn total_of(mwhs: &[u64; 32], n: usize, numbers: [InternalSequence; 32], num
 }
 
 // The group's first member in deck order.
-pub fn lead_of(numbers: [InternalSequence; 32], n: usize, number: u32) -> usize
+pub fn lead_of(numbers: [InternalSequence; 32], n: usize, number: InternalSequence) -> usize
     requires { ⌜ (n ≤ 32) × (0 < counted numbers number n) ⌝ }
     ensures { λ r. ⌜ Lead numbers n number r ⌝ }
 {
     let mut j = 0;
     while j < n {
         let x = numbers[j];
-        if x.0 == number {
+        if sequence::same_number(x, number) {
             return j;
         }
         j += 1;
@@ -211,7 +216,7 @@ fn share_rows(
     let mut j = 0;
     while j < n {
         let x = numbers[j];
-        if x.0 == number.0 {
+        if sequence::same_number(x, number) {
             count += 1;
             mwh += mwhs[j];
             share_row(

@@ -1,14 +1,14 @@
 -- W as changed is W from b up; W grows with the level, and W as changed up to b.
 use mathlib.Core.Bool.{Bool, true, false, _&&_}
-use mathlib.Core.Path.{_≡_, refl}
+use mathlib.Core.Path.{_≡_, refl, ap, sym}
 use Prim.Native.Nat.{ℕ, zero, suc, _+_, _-_, _*_, _/_, _≤_}
 use native.Mathlib.Decide.{decLe}
 use native.Mathlib.Nat.{div-zero, le-trans, mul-div-cancel, mul-le-mul, mul-le-mul-left, mul-le-mul-right, mul-zero, zero-div}
 use native.Mathlib.Omega.{arith}
-use borrow.Author.Tests.{le-leb, lt-leb, leb-true}
-use lib.Dec.{leb}
+use borrow.Author.Tests.{le-leb, lt-leb, leb-true, ne-eqb}
+use lib.Dec.{leb, eqb}
 use Rattle.laws.specs.Sums.{div-grows, part-most}
-use Rattle.rules.specs.Group.{changed}
+use Rattle.rules.specs.Group.{prorated, changed}
 use Rattle.rules.specs.Units.{heat, curveCost, cost}
 use Rattle.rules.specs.Words.{if_then_else_}
 use Rattle.rules.specs.declared.HeatCurve.{HeatCurve}
@@ -50,10 +50,18 @@ pub unit-starts : (u : Unit) → 1 ≤ u .curve .k → Starts (U u)
 unfolding curveCost
 unit-starts u h = rw (lt-leb (u .curve .k) 0 h, mul-zero (heat (u .curve) (u .curve .k))) (zero-div (u .curve .k))
 
+-- a number over 0 is 0, so that what stands up to b is one quotient
+pub changed-is : (s : Running) (m : ℕ) → changed s m ≡ (if s .based && leb m (s .b) then cost (s .plant) (s .b) * m / s .b else cost (s .plant) m)
+unfolding changed
+changed-is s m = ap (λ (x : ℕ). if s .based && leb m (s .b) then x else cost (s .plant) m) (go (s .b))
+  where
+    go : (b : ℕ) → (if eqb b 0 then 0 else cost (s .plant) b * m / b) ≡ cost (s .plant) b * m / b
+    go zero = sym (div-zero (cost (s .plant) 0 * m))
+    go (suc b) = rw (ne-eqb (suc b) 0 (λ e. omega arith))
+
 module _ (s : Running) where
   pub changed-over : Starts (s .plant) → (m : ℕ) → s .b ≤ m → changed s m ≡ cost (s .plant) m
-  unfolding changed
-  changed-over z m h = go (s .based) (leb m (s .b)) refl
+  changed-over z m h = rw (changed-is s m) (go (s .based) (leb m (s .b)) refl)
     where
       same : (b : ℕ) → b ≡ m → cost (s .plant) b * m / b ≡ cost (s .plant) m
       same zero e = rw (← e) (rw z (div-zero 0))
@@ -65,13 +73,11 @@ module _ (s : Running) where
       go false y e = refl
 
   pub changed-under : s .based ≡ true → (m z : ℕ) → m ≤ z → z ≤ s .b → changed s m ≤ changed s z
-  unfolding changed
   changed-under e m z h l =
-      rw (e, le-leb m (s .b) (le-trans h l), le-leb z (s .b) l) (div-grows _ _ (s .b) (mul-le-mul-left (cost (s .plant) (s .b)) h))
+      rw (changed-is s m, changed-is s z, e, le-leb m (s .b) (le-trans h l), le-leb z (s .b) l) (div-grows _ _ (s .b) (mul-le-mul-left (cost (s .plant) (s .b)) h))
 
   pub changed-zero : Starts (s .plant) → changed s 0 ≡ 0
-  unfolding changed
-  changed-zero z = go (s .based) (leb 0 (s .b))
+  changed-zero z = rw (changed-is s 0) (go (s .based) (leb 0 (s .b)))
     where
       go : (x y : Bool) → (if x && y then cost (s .plant) (s .b) * 0 / (s .b) else cost (s .plant) 0) ≡ 0
       go true true = rw (mul-zero (cost (s .plant) (s .b))) (zero-div (s .b))

@@ -7,7 +7,7 @@ use native.Mathlib.Omega.{arith}
 use borrow.Author.Tests.{le-leb, leb-true}
 use lib.Dec.{leb}
 use Rattle.laws.specs.Sums.{part-most}
-use Rattle.merit.specs.ChangedFromB.{cost-grows}
+use Rattle.merit.specs.ChangedFromB.{cost-grows, changed-is}
 use Rattle.merit.specs.LevelNeverBelowB.{Sound, Took}
 use Rattle.merit.specs.RemainderMoves.{Shift, down, up}
 use Rattle.rules.specs.Group.{level, changed, opened, headroom, headroomOf}
@@ -61,8 +61,7 @@ pub level-small : (s : Running) → Sound s → Small s → level s ≤ 4000
 level-small s g l = omega (arith, g .part, l .v, l .b)
 
 pub changed-small : (s : Running) → Small s → (m : ℕ) → m ≤ 4000 → changed s m ≤ 100_000_000_000_000
-unfolding changed
-changed-small s l m h = go (s .based) (leb m (s .b)) refl
+changed-small s l m h = rw (changed-is s m) (go (s .based) (leb m (s .b)) refl)
   where
     go : (x y : Bool) → leb m (s .b) ≡ y → (if x && y then cost (s .plant) (s .b) * m / (s .b) else cost (s .plant) m) ≤ 100_000_000_000_000
     go true true e = le-trans (part-most (cost (s .plant) (s .b)) m (s .b) (leb-true m (s .b) e)) (cost-small (s .plant) (l .plant) (s .b) (omega (arith, l .b)))

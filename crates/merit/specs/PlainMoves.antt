@@ -14,8 +14,8 @@ use Rattle.laws.specs.Sums.{below-suc, sumTo-most, sumTo-zero, sumTo-but}
 use Rattle.merit.specs.Best.{Best, best-skip, best-keep, best-take, best-only}
 use Rattle.merit.specs.LevelNeverBelowB.{stateAt}
 use Rattle.merit.specs.Settled.{bump, bump-same, bump-other}
-use Rattle.rules.specs.Group.{noRunning, level, floor, Rung, normal, oil, emergency, last, room, headroom, headroomOf, withOpen, lowered, raised, Way, better, next, move, plain, unloading, lastStep, crediting, all}
-use Rattle.rules.specs.Units.{movable}
+use Rattle.rules.specs.Group.{noRunning, level, floor, Rung, normal, oil, emergency, last, room, headroom, headroomOf, withOpen, lowered, raised, Way, unitRoom, better, next, move, plain, unloading, lastStep, crediting, all}
+use Rattle.rules.specs.Units.{movable, isUnit}
 use Rattle.rules.specs.Words.{if_then_else_, sumTo}
 use Rattle.rules.specs.declared.Plant.{Plant}
 use Rattle.rules.specs.declared.Plant.the-variants.{Unit as U, Purchase as P, Fixed as F}
@@ -170,8 +170,8 @@ blank-room : (x : Rung) → room x noRunning ≡ 0
 unfolding room
 blank-room x = omega arith
 
-lowering-stepwise : (x : Rung) (first : Running → Running → Bool) → Stepwise (record { room = room x; first = first; moved = lowered })
-lowering-stepwise x first =
+pub unloading-stepwise : (x : Rung) → Stepwise (unloading x)
+unloading-stepwise x =
     record {
       none = λ s. ap (withOpen s) (omega arith);
       more = λ s k. ap (withOpen s) (omega arith);
@@ -179,11 +179,30 @@ lowering-stepwise x first =
       blank = blank-room x;
     }
 
-pub unloading-stepwise : (x : Rung) → Stepwise (unloading x)
-unloading-stepwise x = lowering-stepwise x (unloading x .first)
+pub unit-room-most : (s : Running) → unitRoom s ≤ room last s
+unfolding unitRoom
+unit-room-most s = go (isUnit (s .plant))
+  where
+    go : (b : Bool) → (if b then room last s else 0) ≤ room last s
+    go true = omega arith
+    go false = omega arith
+
+pub lowered-unit-room : (s : Running) (k : ℕ) → unitRoom (lowered s k) ≡ unitRoom s - k
+unfolding unitRoom
+lowered-unit-room s k = rw (lowered-room last s k) (go (isUnit (s .plant)))
+  where
+    go : (b : Bool) → (if b then room last s - k else 0) ≡ (if b then room last s else 0) - k
+    go true = refl
+    go false = omega arith
 
 pub last-stepwise : Stepwise lastStep
-last-stepwise = lowering-stepwise last (lastStep .first)
+last-stepwise =
+    record {
+      none = λ s. ap (withOpen s) (omega arith);
+      more = λ s k. ap (withOpen s) (omega arith);
+      room = λ s k h. lowered-unit-room s k;
+      blank = omega (arith, unit-room-most noRunning, blank-room last);
+    }
 
 pub crediting-stepwise : Stepwise crediting
 unfolding headroom

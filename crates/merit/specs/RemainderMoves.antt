@@ -9,15 +9,17 @@ use borrow.Author.Tests.{leb-true, leb-false}
 use lib.Dec.{leb}
 use lib.ListN.{List·getD-map}
 use Rattle.laws.specs.Choices.{refused-not-accepted, accepted-same}
-use Rattle.laws.specs.Sums.{sumTo-add, sumTo-most}
+use Rattle.laws.specs.Sums.{sumTo-add, sumTo-most, sumTo-same}
 use Rattle.merit.specs.LevelNeverBelowB.{Sound, stateAt, Moved, lowered-moved, raised-moved}
 use Rattle.merit.specs.PlainMoves.{Tracks, movedBy, plain-tracks, movedBy-sum, lowered-room, unloading-stepwise, last-stepwise, crediting-stepwise}
-use Rattle.rules.specs.Group.{noRunning, floor, Rung, normal, oil, emergency, last, room, headroom, withOpen, lowered, raised, plain, unloading, lastStep, crediting, all, toEmergency, unload, credit, remainder}
+use Rattle.rules.specs.Group.{noRunning, floor, Rung, normal, oil, emergency, last, room, headroom, withOpen, lowered, raised, unitRoom, plain, unloading, lastStep, crediting, all, toEmergency, unload, credit, remainder}
 use Rattle.rules.specs.Refusals.{Outcome, accepted, refused}
 use Rattle.rules.specs.Units.{movable}
 use Rattle.rules.specs.Words.{if_then_else_, sumTo}
 use Rattle.rules.specs.declared.InternalSequence.{InternalSequence}
 use Rattle.rules.specs.declared.Refusal.the-variants.{NoRoom, NoHeadroom}
+use Rattle.rules.specs.declared.Plant.{Plant}
+use Rattle.rules.specs.declared.Plant.the-variants.{Unit as U, Purchase as P, Fixed as F}
 use Rattle.rules.specs.declared.Running.{Running}
 
 -- the last step's floors are the lowest
@@ -91,6 +93,19 @@ emergency-room : (ss : List Running) (i : ℕ) → room last (stateAt (toEmergen
 emergency-room ss i =
     omega (arith, ap (room last) (emergency-at ss i) ∙ lowered-room last (stateAt ss i) (room emergency (stateAt ss i)), room-last emergency (stateAt ss i))
 
+-- of a purchase nothing is left above b - D then, for its emergency floor is b - D
+emergency-empties : (s : Running) → unitRoom (lowered s (room emergency s)) ≡ room last (lowered s (room emergency s))
+unfolding unitRoom room
+emergency-empties s = go (s .plant) refl
+  where
+    go : (p : Plant) → s .plant ≡ p → unitRoom (lowered s (room emergency s)) ≡ room last (lowered s (room emergency s))
+    go (U u) e = rw e
+    go (P g rate) e = rw e (omega arith)
+    go (F g) e = rw e
+
+pub emergency-leaves : (ss : List Running) (i : ℕ) → unitRoom (stateAt (toEmergency ss) i) ≡ room last (stateAt (toEmergency ss) i)
+emergency-leaves ss i = rw (emergency-at ss i) (emergency-empties (stateAt ss i))
+
 -- the last step after the emergency floors
 bottom-spread : (n : ℕ) (ss : List Running) (r : ℕ) → all (room emergency) ss n < r → r ≤ all (room last) ss n →
     Spread (room last) lowered n r ss (plain lastStep n (toEmergency ss) (r - all (room emergency) ss n))
@@ -99,18 +114,21 @@ bottom-spread n ss r a b =
       t = λ i. room emergency (stateAt ss i) + rest i;
       tracks = record {
         is = λ i. tracks .is i ∙ ap (λ (s : Running). lowered s (rest i)) (emergency-at ss i) ∙ ap (withOpen (stateAt ss i)) (omega arith);
-        fits = λ i. omega (arith, tracks .fits i, emergency-room ss i);
+        fits = λ i. omega (arith, tracks .fits i, emergency-leaves ss i, emergency-room ss i);
       };
       sum =
           let e = sumTo-add n (λ i. room last (stateAt (toEmergency ss) i)) (λ i. room emergency (stateAt ss i)) (λ i. room last (stateAt ss i)) (λ i l. emergency-room ss i) in
           sym (sumTo-add n (λ i. room emergency (stateAt ss i)) rest _ (λ i l. refl)) ∙
-          omega (arith, movedBy-sum lastStep last-stepwise n (toEmergency ss) (r - all (room emergency) ss n) (omega arith));
+          omega (arith, movedBy-sum lastStep last-stepwise n (toEmergency ss) (r - all (room emergency) ss n) (omega (arith, left)));
     }
   where
     rest : ℕ → ℕ
     rest = movedBy lastStep n (toEmergency ss) (r - all (room emergency) ss n)
 
-    tracks : Tracks (room last) lowered (toEmergency ss) (plain lastStep n (toEmergency ss) (r - all (room emergency) ss n)) rest
+    left : all unitRoom (toEmergency ss) n ≡ all (room last) (toEmergency ss) n
+    left = sumTo-same n (λ i. unitRoom (stateAt (toEmergency ss) i)) (λ i. room last (stateAt (toEmergency ss) i)) (λ i l. emergency-leaves ss i)
+
+    tracks : Tracks unitRoom lowered (toEmergency ss) (plain lastStep n (toEmergency ss) (r - all (room emergency) ss n)) rest
     tracks = plain-tracks lastStep last-stepwise n (toEmergency ss) (r - all (room emergency) ss n)
 
 pub unload-spread : (number : InternalSequence) (n : ℕ) (ss : List Running) (r : ℕ) (us : List Running) → unload number n ss r ≡ accepted us → Spread (room last) lowered n r ss us

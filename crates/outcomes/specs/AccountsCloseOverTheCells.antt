@@ -1,9 +1,9 @@
--- For each accepted hour and each source, over the cells that the call wrote: the signed MWh to deliveries and the open MWh make up g,
--- and the signed costs and the open cost make up W(g) as it was before any direct allocation. Every cell fits 64 signed bits.
+-- For each accepted hour and each source, over the cells that its reconstruction leaves in the lent buffer: the signed MWh to deliveries and the open MWh
+-- make up g, and the signed costs and the open cost make up W(g) as it was before any direct allocation. Every cell fits 64 signed bits.
 use mathlib.Core.Bool.{true, not}
 use mathlib.Core.List.{List, _++_}
-use mathlib.Core.Path.{_≡_, refl, ap, _∙_}
-use Prim.Native.Nat.{ℕ, suc, _+_, _*_, _≤_, _<_}
+use mathlib.Core.Path.{_≡_, ap}
+use Prim.Native.Nat.{ℕ, suc, _*_, _≤_, _<_}
 use native.Mathlib.Nat.{mul-le-mul-right}
 use native.Mathlib.Omega.{arith}
 use lib.Dec.{ltb}
@@ -20,35 +20,25 @@ use Rattle.laws.specs.Signed.{sumℤ, sumℤ-same}
 use Rattle.rules.specs.Calls as calls
 use Rattle.rules.specs.Calls.{reconstruction, leaves}
 use Rattle.rules.specs.Hour.{cellCount, answer}
-use Rattle.rules.specs.Refusals.{Outcome, accepted, refused, refuse}
+use Rattle.rules.specs.Refusals.{Outcome, accepted, refuse}
 use Rattle.rules.specs.Writing.{valid}
 use Rattle.rules.specs.declared.Hour.{Hour}
 use Rattle.rules.specs.declared.Refusal.the-variants.{Short, NoDeck}
-use Rattle.reconstruct.specs.Answers.{reconstructedOf}
-use Rattle.outcomes.specs.Promised.{Promised, countOf}
-use Rattle.reconstruct.specs.declared.Reconstructed.the-variants.{Cells}
+use Rattle.reconstruct.specs.WholeAnswer.{count-few}
 
--- what a call that answers with cells has done
-pub record Wrote (h : Hour) (entry : List ℤ) (n : ℕ) (exit : List ℤ) : Type 0 where
-  pub cells : List ℤ
+-- an hour whose reconstruction is accepted: a valid one, whose answer are these cells
+pub record Whole (h : Hour) (xs : List ℤ) : Type 0 where
   pub given : valid h ≡ true
-  pub whole : answer h ≡ accepted cells
-  pub count : n ≡ length cells
-  pub exit-is : exit ≡ cells ++ drop (length cells) entry
+  pub whole : answer h ≡ accepted xs
+  pub few : length xs ≤ 4160
 
-pub call-wrote : (h : Hour) (entry : List ℤ) (n : ℕ) (exit : List ℤ) → Promised h entry (Cells n) exit → Wrote h entry n exit
+pub accepted-whole : (h : Hour) (size : ℕ) (xs : List ℤ) → reconstruction h size ≡ accepted xs → Whole h xs
 unfolding calls.reconstruction
-call-wrote h entry n exit p = go (reconstruction h (length entry)) refl
-  where
-    go : (o : Outcome (List ℤ)) → reconstruction h (length entry) ≡ o → Wrote h entry n exit
-    go (accepted xs) e =
-        let a = refuse-passed (not (valid h)) NoDeck (refuse (ltb (length entry) (cellCount h)) Short (answer h)) xs e in
-        let b = refuse-passed (ltb (length entry) (cellCount h)) Short (answer h) xs (a .1) in
-        let c : suc n ≡ suc (length xs) = ap countOf (p .outcome ∙ ap reconstructedOf e) in
-        record { cells = xs; given = not-false (valid h) (a .0); whole = b .1; count = omega (arith, c); exit-is = p .cells ∙ ap (λ (o : Outcome (List ℤ)). leaves o entry) e }
-    go (refused r) e =
-        let c : suc n ≡ 0 = ap countOf (p .outcome ∙ ap reconstructedOf e) in
-        absurd (omega (arith, c))
+accepted-whole h size xs e =
+    let a = refuse-passed (not (valid h)) NoDeck (refuse (ltb size (cellCount h)) Short (answer h)) xs e in
+    let b = refuse-passed (ltb size (cellCount h)) Short (answer h) xs (a .1) in
+    let v = not-false (valid h) (a .0) in
+    record { given = v; whole = b .1; few = omega (arith, answer-length h xs (b .1), count-few h v) }
 
 -- cells that balance do so with more after them
 module _ (h : Hour) (xs ys : List ℤ) (long : length xs ≡ cellCount h) where
@@ -74,12 +64,16 @@ module _ (h : Hour) (xs ys : List ℤ) (long : length xs ≡ cellCount h) where
         grains = rw (columns i 2 3 l (omega arith) (omega arith), first (openPlace h i 1) (omega arith)) (b .grains);
       }
 
-pub accounts-close-over-the-cells : (h : Hour) (entry : List ℤ) (n : ℕ) (exit : List ℤ) → Promised h entry (Cells n) exit → (i : ℕ) → i < h .nsources → Balances h exit i
-accounts-close-over-the-cells h entry n exit p i l =
-    let w = call-wrote h entry n exit p in
-    rw (w .exit-is) (balances-longer h (w .cells) (drop (length (w .cells)) entry) (answer-length h (w .cells) (w .whole)) i l (accounts-close h (w .given) (w .cells) (w .whole) i l))
+module _ (h : Hour) (entry xs : List ℤ) (e : reconstruction h (length entry) ≡ accepted xs) where
+  left : leaves (reconstruction h (length entry)) entry ≡ xs ++ drop (length xs) entry
+  left = ap (λ (o : Outcome (List ℤ)). leaves o entry) e
 
-pub every-written-cell-fits : (h : Hour) (entry : List ℤ) (n : ℕ) (exit : List ℤ) → Promised h entry (Cells n) exit → (k : ℕ) → k < n → SFits w64 (cellAt exit k)
-every-written-cell-fits h entry n exit p k l =
-    let w = call-wrote h entry n exit p in
-    rw (w .exit-is, List·getD-append (w .cells) (drop (length (w .cells)) entry) (pos 0) k (omega (arith, w .count))) (every-cell-fits h (w .given) (w .cells) (w .whole) k)
+  pub accounts-close-over-the-cells : (i : ℕ) → i < h .nsources → Balances h (leaves (reconstruction h (length entry)) entry) i
+  accounts-close-over-the-cells i l =
+      let w = accepted-whole h (length entry) xs e in
+      rw left (balances-longer h xs (drop (length xs) entry) (answer-length h xs (w .whole)) i l (accounts-close h (w .given) xs (w .whole) i l))
+
+  pub every-written-cell-fits : (k : ℕ) → k < length xs → SFits w64 (cellAt (leaves (reconstruction h (length entry)) entry) k)
+  every-written-cell-fits k l =
+      let w = accepted-whole h (length entry) xs e in
+      rw (left, List·getD-append xs (drop (length xs) entry) (pos 0) k l) (every-cell-fits h (w .given) xs (w .whole) k)

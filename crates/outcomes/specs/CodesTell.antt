@@ -19,10 +19,10 @@ use Rattle.rules.specs.Fields.{Chars, Field, got, malformed}
 use Rattle.rules.specs.Group as groupRules
 use Rattle.rules.specs.Group.{groupLines, remainder, unload, credit}
 use Rattle.rules.specs.Hour as hours
-use Rattle.rules.specs.Hour.{Progress, cellCount, cellsOf, counted, group, groups, member, numbers, rest, scheduled, shared, tookAll}
+use Rattle.rules.specs.Hour.{Progress, cellCount, cellsOf, counted, group, groups, member, numbers, rest, scheduled, shared, tookAll, descending}
 use Rattle.rules.specs.Lines.{Fields, H, U, P, F, T, D, E, Letter, Line, fieldsOf, lineAt, ranged}
 use Rattle.rules.specs.Reading as readings
-use Rattle.rules.specs.Reading.{basisKept, belowHigh, delivered, deliveryNamed, deliveryUsed, finished, generated, headed, headedAs, isEnd, lineNumber, linesFrom, named, needsPlacer, onLine, percentsOf, placer, reading, sourceTaken, sourceUsed, unitNamed, deliveryTaken, directTaken, taken, takenAs, turn, unplaced}
+use Rattle.rules.specs.Reading.{allPlaced, basisKept, belowHigh, delivered, deliveryNamed, deliveryTaken, deliveryUsed, directTaken, finished, generated, headed, headedAs, isEnd, lineNumber, linesFrom, named, onLine, percentsOf, reading, sourceTaken, sourceUsed, taken, takenAs, turn, unitNamed, unplaced}
 use Rattle.rules.specs.Record as records
 use Rattle.rules.specs.Record.{deliveryOf, fixedOf, labelOf, purchaseOf, sourceAt, unitOf}
 use Rattle.rules.specs.Refusals.{Outcome, accepted, refused, refuse, andThen, numberOf, placeOf}
@@ -35,7 +35,7 @@ use Rattle.rules.specs.declared.Hour.{Hour}
 use Rattle.rules.specs.declared.InternalSequence.{InternalSequence}
 use Rattle.rules.specs.declared.Label.{Label}
 use Rattle.rules.specs.declared.Refusal.{Refusal}
-use Rattle.rules.specs.declared.Refusal.the-variants.{TooLong, Form, Range, Names, Overdrawn, Short, NoDeck}
+use Rattle.rules.specs.declared.Refusal.the-variants.{TooLong, Form, Range, Full, Used, Levels, Names, OtherBasis, Percents, Overdrawn, Unplaced, NoRoom, NoHeadroom, Short, NoDeck}
 use Rattle.rules.specs.declared.Running.{Running}
 use Rattle.rules.specs.declared.Source.{Source}
 
@@ -107,14 +107,13 @@ module _ (h : Hour) (w : Few h) where
   taken-told D v = direct-told (ranged (fieldsOf D) v) (v .0) (v .1 .0) (labelOf (v .1 .1 .0)) (labelOf (v .1 .1 .1 .0))
   taken-told E v = low
 
-  placer-told : (i j : Option ℕ) → unplaced h ≡ i → Read (needsPlacer h i j)
-  placer-told none j e = w
-  placer-told (some i) none e = omega (arith, findTo-passes _ _ i e .0, w .sources, w .deliveries)
-  placer-told (some i) (some j) e = w
+  placed-told : (i : Option ℕ) → unplaced h ≡ i → Read (allPlaced h i)
+  placed-told none e = w
+  placed-told (some i) e = omega (arith, findTo-passes _ _ i e .0, w .sources, w .deliveries)
 
   finished-told : Read (finished h)
   unfolding readings.finished
-  finished-told = refuse-told 99 Few (ltb (generated h) (h .losses + delivered h)) Overdrawn _ (omega arith) λ a. placer-told (unplaced h) (placer h) refl
+  finished-told = refuse-told 99 Few (ltb (generated h) (h .losses + delivered h)) Overdrawn _ (omega arith) λ a. placed-told (unplaced h) refl
 
 end-told : (h : Hour) → Few h → (b : Bool) → Read (if b then finished h else refused (Form (lineNumber h + 1)))
 end-told h w true = finished-told h w
@@ -182,15 +181,15 @@ remainder-told number n total took ss l = go (leb took total)
 groups-told : (h : Hour) (ns : List InternalSequence) (k : ℕ) → Gone (groups h ns k)
 unfolding hours.groups hours.group hours.rest
 groups-told h ns zero = tt
-groups-told h ns (suc k) = then-told 999 Any Any (groups h ns k) (group h ns (999 - k)) (groups-told h ns k) (λ p t. go p (eqb (counted ns (999 - k) (h .ndeliveries)) 0))
+groups-told h ns (suc k) = then-told 999 Any Any (groups h ns k) (group h ns (descending k)) (groups-told h ns k) (λ p t. go p (eqb (counted ns (descending k) (h .ndeliveries)) 0))
   where
-    go : (p : Progress) (b : Bool) → Gone (if b then accepted p else rest h ns (999 - k) (p .states) (groupLines (member ns (999 - k)) (h .directs) (p .states) (h .ndirects)) (p .cells))
+    go : (p : Progress) (b : Bool) → Gone (if b then accepted p else rest h ns (descending k) (p .states) (groupLines (member ns (descending k)) (h .directs) (p .states) (h .ndirects)) (p .cells))
     go p true = tt
     go p false =
-        let ts = groupLines (member ns (999 - k)) (h .directs) (p .states) (h .ndirects) in
-        then-told 999 Any Any (remainder (record { 0 = 999 - k }) (h .nsources) (scheduled h ns (999 - k) (h .ndeliveries)) (tookAll (h .nsources) (p .states) ts) ts)
-        (λ us. accepted (record { states = us; cells = shared h ns (999 - k) (p .states) ts us (p .cells) }))
-        (remainder-told (record { 0 = 999 - k }) _ _ _ _ (omega arith)) (λ us t. tt)
+        let ts = groupLines (member ns (descending k)) (h .directs) (p .states) (h .ndirects) in
+        then-told 999 Any Any (remainder (descending k) (h .nsources) (scheduled h ns (descending k) (h .ndeliveries)) (tookAll (h .nsources) (p .states) ts) ts)
+        (λ us. accepted (record { states = us; cells = shared h ns (descending k) (p .states) ts us (p .cells) }))
+        (remainder-told (descending k) _ _ _ _ (omega arith)) (λ us t. tt)
 
 reconstruction-told : (h : Hour) (size : ℕ) → Gone (reconstruction h size)
 unfolding calls.reconstruction hours.answer hours.reconstructed
@@ -199,6 +198,24 @@ reconstruction-told h size =
     then-told 999 Any Any (groups h (numbers h) 1000) (λ p. accepted (cellsOf h p)) (groups-told h (numbers h) 1000) (λ p t. tt)
 
 -- What the code tells.
+
+-- no refusal has the number 0, so that its code is 2^32 or more
+pub number-least : (r : Refusal) → 1 ≤ numberOf r
+number-least TooLong = omega arith
+number-least (Form line) = omega arith
+number-least (Range line) = omega arith
+number-least (Full line) = omega arith
+number-least (Used line) = omega arith
+number-least (Levels line) = omega arith
+number-least (Names line) = omega arith
+number-least (OtherBasis line) = omega arith
+number-least (Percents line) = omega arith
+number-least Overdrawn = omega arith
+number-least (Unplaced line) = omega arith
+number-least (NoRoom x) = omega arith
+number-least (NoHeadroom x) = omega arith
+number-least Short = omega arith
+number-least NoDeck = omega arith
 
 pub record Tells (r : Refusal) : Type 0 where
   pub number : codeOf r / 4_294_967_296 ≡ numberOf r

@@ -1,6 +1,5 @@
-pub mod Promised
-pub mod TwoCallsAgree
-pub mod RefusedCallsChangeNothing
+pub mod RefusedLeavesTheBuffer
 pub mod AccountsCloseOverTheCells
-pub mod WrongReconstructors
+pub mod FirstGroupBalances
+pub mod ThreeHours
 pub mod CodesTell

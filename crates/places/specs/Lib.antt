@@ -1,3 +1,4 @@
 pub mod Places
 pub mod LabelsStand
 pub mod Walk
+pub mod MentionsStandElsewhere

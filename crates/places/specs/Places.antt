@@ -23,17 +23,27 @@ lineStart s (suc k) = lineStart s k + past 10 (drop (lineStart s k) s)
 unfoldable pub labelStart : List ℕ → ℕ → ℕ
 labelStart s k = lineStart s k + past 34 (drop (lineStart s k) s)
 
--- a label's place as one number: where its bytes start, times 2^32, and how many they are; 0 where there are none
-abbrev pub labelCode : ℕ → ℕ → ℕ
-labelCode start n = if eqb n 0 then 0 else start * 4_294_967_296 + n
+-- where a part of n bytes starts: where its label does; at the deck's start where it has no bytes
+abbrev pub partStart : ℕ → ℕ → ℕ
+partStart start n = if eqb n 0 then 0 else start
 
 abbrev pub sourcesOf : Outcome Hour → ℕ
 sourcesOf (accepted h) = h .nsources
 sourcesOf (refused r) = 0
 
 -- "one H, then sources in any mix, then T lines": source i stands on line i + 1, and delivery j as far after the sources
+abbrev pub sourceStart : List ℕ → ℕ → ℕ
+sourceStart s i = partStart (labelStart s (i + 1)) (length (sourcePart s i))
+
+abbrev pub deliveryStart : List ℕ → ℕ → ℕ
+deliveryStart s j = partStart (labelStart s (sourcesOf (reading s) + j + 1)) (length (deliveryPart s j))
+
+-- a part's place as one number: where its bytes start, times 2^32, and how many they are; so 0 where there are none
+abbrev pub placeCode : ℕ → ℕ → ℕ
+placeCode start n = start * 4_294_967_296 + n
+
 abbrev pub sourcePlace : List ℕ → ℕ → ℕ
-sourcePlace s i = labelCode (labelStart s (i + 1)) (length (sourcePart s i))
+sourcePlace s i = placeCode (sourceStart s i) (length (sourcePart s i))
 
 abbrev pub deliveryPlace : List ℕ → ℕ → ℕ
-deliveryPlace s j = labelCode (labelStart s (sourcesOf (reading s) + j + 1)) (length (deliveryPart s j))
+deliveryPlace s j = placeCode (deliveryStart s j) (length (deliveryPart s j))

@@ -1,7 +1,7 @@
 -- Laws of the walk to a label: one byte, one line and one label further, and what a label that is there tells of the deck.
 use mathlib.Core.Path.{_≡_, refl, ap, sym, _∙_}
-use mathlib.Core.List.{List}
-use Prim.Native.Nat.{ℕ, suc, _+_, _*_, _<_, _≤_}
+use mathlib.Core.List.{List, [], _∷_}
+use Prim.Native.Nat.{ℕ, suc, _+_, _-_, _*_, _<_, _≤_}
 use native.Mathlib.Numerals.{add-one}
 use native.Mathlib.Omega.{arith}
 use borrow.Author.Tests.{eq-eqb, ne-eqb}
@@ -17,7 +17,7 @@ use Rattle.roundtrip.specs.GivenHour.{accepted-given}
 use Rattle.deck.specs.Answers.{readAnswer}
 use Rattle.deck.specs.declared.ReadHour.{ReadHour}
 use Rattle.places.specs.Places as places
-use Rattle.places.specs.Places.{past, lineStart, labelStart, labelCode, sourcesOf}
+use Rattle.places.specs.Places.{past, lineStart, labelStart, partStart, sourcesOf, placeCode}
 use Rattle.places.specs.LabelsStand.{partOf, part-found, sourceText, deliveryText, source-part, delivery-part, source-stands, delivery-stands}
 
 -- One byte further: the walk to the first b from a place on.
@@ -53,12 +53,16 @@ start-more s k at next e f = rw add-one (f ∙ ap (λ (m : ℕ). m + past 10 (dr
 
 -- The label.
 
-pub label-found : (s : List ℕ) (k n from at : ℕ) → (n ≡ 0 → ⊥) → from ≡ lineStart s k → at ≡ from + past 34 (drop from s) → at * 4_294_967_296 + n ≡ labelCode (labelStart s k) n
+pub label-at : (s : List ℕ) (k line at : ℕ) → line ≡ lineStart s k → at ≡ line + past 34 (drop line s) → at ≡ labelStart s k
 unfolding places.labelStart
-label-found s k n from at some e f = rw (ne-eqb n 0 some) (ap (λ (m : ℕ). m * 4_294_967_296 + n) (f ∙ ap (λ (m : ℕ). m + past 34 (drop m s)) e))
+label-at s k line at e f = f ∙ ap (λ (m : ℕ). m + past 34 (drop m s)) e
 
-pub label-none : (start n : ℕ) → n ≡ 0 → 0 ≡ labelCode start n
-label-none start n e = ap (labelCode start) (sym e)
+-- its place as one number
+pub label-found : (start n at : ℕ) → (n ≡ 0 → ⊥) → at ≡ start → at * 4_294_967_296 + n ≡ placeCode (partStart start n) n
+label-found start n at some e = rw (ne-eqb n 0 some) (ap (λ (m : ℕ). m * 4_294_967_296 + n) e)
+
+pub label-none : (start n : ℕ) → n ≡ 0 → 0 ≡ placeCode (partStart start n) n
+label-none start n e = ap (λ (m : ℕ). placeCode (partStart start m) m) (sym e)
 
 -- an entry whose label has bytes is one of an accepted deck
 pub record Entry (s : List ℕ) (i n : ℕ) : Type 0 where
@@ -96,3 +100,29 @@ read-sources s x e = ap (λ (y : ReadHour). y .hour .nsources) e ∙ go (reading
     go : (o : Outcome Hour) → readAnswer o .hour .nsources ≡ sourcesOf o
     go (accepted h) = refl
     go (refused r) = refl
+
+-- The part at the label.
+
+pub part-there : (s : List ℕ) (at from n : ℕ) → from ≡ at → take (from + n - from) (drop from s) ≡ take n (drop at s)
+part-there s at from n e = let k : from + n - from ≡ n = omega arith in rw (k, e)
+
+-- a part with bytes that stands in the deck ends in it
+pub part-ends : (s part : List ℕ) (at : ℕ) → (length part ≡ 0 → ⊥) → take (length part) (drop at s) ≡ part → at + length part ≤ length s
+part-ends s part at some stands = omega (arith, some, ap length (sym stands) ∙ length-take (length part) (drop at s), length-drop at s)
+
+-- the part that is asked for, and where it starts, by the bytes that are told of it
+module _ (block offset start : ℕ) (told part : List ℕ) (e : told ≡ part) where
+  pub none-told : length told ≡ 0 → ([] ≡ part) × (_≡_ {A = ℕ × ℕ} (block, 0 + offset) (block, partStart start (length part) + offset))
+  none-told z =
+      let n : length part ≡ 0 = ap length (sym e) ∙ z in
+      (sym (length-none part n), ap (λ (m : ℕ). (block, partStart start m + offset)) (sym n))
+    where
+      length-none : (xs : List ℕ) → length xs ≡ 0 → xs ≡ []
+      length-none [] z = refl
+      length-none (x ∷ xs) z = absurd (omega arith)
+
+  pub some-told : (s r : List ℕ) (from : ℕ) (at : ℕ × ℕ) → (length told ≡ 0 → ⊥) → from ≡ start → take (length part) (drop start s) ≡ part
+      → r ≡ take (length told) (drop from s) → at ≡ (block, from + offset) → (r ≡ part) × (at ≡ (block, partStart start (length part) + offset))
+  some-told s r from at some f stands b p =
+      let k : partStart start (length part) ≡ start = rw (ne-eqb (length part) 0 (λ z. some (ap length e ∙ z))) in
+      (b ∙ ap (λ (xs : List ℕ). take (length xs) (drop from s)) e ∙ ap (λ (m : ℕ). take (length part) (drop m s)) f ∙ stands, p ∙ ap (λ (m : ℕ). (block, m + offset)) (f ∙ sym k))

@@ -78,7 +78,7 @@ pub header-same : (h : Hour) (g d : ℕ) → g ≡ generated h → d ≡ deliver
 header-same h g d e f rest = rw (e, f)
 
 -- a line of what is the same
-pair-same : {d e : List ℕ} {m n : ℕ} {s t : List ℕ} {x u y v z w : ℤ} → d ≡ e → m ≡ n → s ≡ t → x ≡ u → y ≡ v → z ≡ w → (rest : List ℕ) → pairText d m s x y z rest ≡ pairText e n t u v w rest
+pair-same : {d e : List ℕ} {m n : InternalSequence} {s t : List ℕ} {x u y v z w : ℤ} → d ≡ e → m ≡ n → s ≡ t → x ≡ u → y ≡ v → z ≡ w → (rest : List ℕ) → pairText d m s x y z rest ≡ pairText e n t u v w rest
 pair-same a b c d e f rest = rw (a, b, c, d, e, f)
 
 open-same : {s t : List ℕ} {x u y v : ℤ} → s ≡ t → x ≡ u → y ≡ v → (rest : List ℕ) → openText s x y rest ≡ openText t u v rest

@@ -19,23 +19,17 @@ use Rattle.rules.specs.Calls.{reconstruction, reporting, leaves}
 use Rattle.rules.specs.declared.Hour.{Hour}
 use Rattle.rules.specs.declared.InternalSequence.{InternalSequence}
 use Rattle.rules.specs.declared.Refusal.{Refusal}
-use Rattle.hour.specs.declared.Verdict.the-variants.{Accepted, Refused}
+use Rattle.rules.specs.Answers.{writtenOf}
+use Rattle.rules.specs.declared.Refusal.the-variants.{Short}
+use Rattle.rules.specs.declared.Verdict.the-variants.{Accepted, Refused}
+use Rattle.rules.specs.declared.Written.the-variants.{Count, Refused as NotWritten}
 use Rattle.deck.specs.Answers.{read-accepted, read-refused, Scanned}
 use Rattle.deck.specs.declared.ScannedDeck.{ScannedDeck}
 use Rattle.sequence.specs.Placings.{placings, placings-same}
-use Rattle.reconstruct.specs.Answers.{reconstructedOf}
 use Rattle.reconstruct.specs.WholeAnswer.{count-few}
-use Rattle.reconstruct.specs.declared.Reconstructed.the-variants.{Cells, Refused as Met}
 use Rattle.ink.specs.Inked.{Room, Inked, inked-first}
 use Rattle.sheet.specs.Lines.{printed}
 use Rattle.printout.specs.HourRows.{Answered}
-use Rattle.printout.specs.declared.Printed.{Printed}
-use Rattle.printout.specs.declared.Printed.the-variants.{Bytes, Short}
-
--- how many bytes were printed, or that there was no room
-abbrev pub printedOf : Outcome (List ℕ) → Printed
-printedOf (accepted w) = Bytes (length w)
-printedOf (refused r) = Short
 
 -- What was scanned.
 
@@ -60,19 +54,19 @@ module _ (h : Hour) (v : valid h ≡ true) (out : List ℤ) (l : length out ≡ 
   unfolding calls.reconstruction
   whole = rw (v, l, le-ltb 4160 (cellCount h) (count-few h v))
 
-  pub run-refused : (r : Refusal) → Met r ≡ reconstructedOf (reconstruction h (length out)) → reconstructed h ≡ refused r
+  pub run-refused : (r : Refusal) → NotWritten r ≡ writtenOf (reconstruction h (length out)) → reconstructed h ≡ refused r
   unfolding hours.answer
-  run-refused r e = go (reconstructed h) (e ∙ ap reconstructedOf whole)
+  run-refused r e = go (reconstructed h) (e ∙ ap writtenOf whole)
     where
-      go : (o : Outcome Progress) → Met r ≡ reconstructedOf (andThen o λ p. accepted (cellsOf h p)) → o ≡ refused r
+      go : (o : Outcome Progress) → NotWritten r ≡ writtenOf (andThen o λ p. accepted (cellsOf h p)) → o ≡ refused r
       go (accepted p) e = let z : _≡_ {A = ℕ} 0 1 = cc in absurd (omega arith)
       go (refused q) e = let z : q ≡ r = cc in ap refused z
 
-  pub run-done : (k : ℕ) (left : List ℤ) → Cells k ≡ reconstructedOf (reconstruction h (length out)) → left ≡ leaves (reconstruction h (length out)) out → Run h left
+  pub run-done : (k : ℕ) (left : List ℤ) → Count k ≡ writtenOf (reconstruction h (length out)) → left ≡ leaves (reconstruction h (length out)) out → Run h left
   unfolding hours.answer
-  run-done k left e f = go (reconstructed h) refl (e ∙ ap reconstructedOf whole) (f ∙ ap (λ (o : Outcome (List ℤ)). leaves o out) whole)
+  run-done k left e f = go (reconstructed h) refl (e ∙ ap writtenOf whole) (f ∙ ap (λ (o : Outcome (List ℤ)). leaves o out) whole)
     where
-      go : (o : Outcome Progress) → reconstructed h ≡ o → Cells k ≡ reconstructedOf (andThen o λ p. accepted (cellsOf h p)) → left ≡ leaves (andThen o λ p. accepted (cellsOf h p)) out → Run h left
+      go : (o : Outcome Progress) → reconstructed h ≡ o → Count k ≡ writtenOf (andThen o λ p. accepted (cellsOf h p)) → left ≡ leaves (andThen o λ p. accepted (cellsOf h p)) out → Run h left
       go (accepted p) oe e f = record { progress = p; run = oe; after = drop (length (cellsOf h p)) out; is = f }
       go (refused q) oe e f = let z : _≡_ {A = ℕ} 0 1 = cc in absurd (omega arith)
 
@@ -104,12 +98,12 @@ module _ (deck : List ℕ) (r : Refusal) where
 -- What the verdict and the lent buffer come to.
 
 module _ (deck out : List ℕ) (n : ℕ) (e : n ≡ length (report deck)) where
-  pub printed-short : length out < n → (Short ≡ printedOf (reporting deck (length out))) × (out ≡ leaves (reporting deck (length out)) out)
+  pub printed-short : length out < n → (NotWritten Short ≡ writtenOf (reporting deck (length out))) × (out ≡ leaves (reporting deck (length out)) out)
   unfolding calls.reporting
   printed-short lt = let f = lt-ltb (length out) (length (report deck)) (omega arith) in (rw f, rw f)
 
   pub printed-fits : (w after : List ℕ) (next : ℕ) → n ≤ length out → w ≡ report deck → Inked out 0 after next (λ rest. w ++ rest)
-      → (Bytes n ≡ printedOf (reporting deck (length out))) × (after ≡ leaves (reporting deck (length out)) out)
+      → (Count n ≡ writtenOf (reporting deck (length out))) × (after ≡ leaves (reporting deck (length out)) out)
   unfolding calls.reporting
   printed-fits w after next le d i =
       let f = le-ltb (length out) (length (report deck)) (omega arith) in

@@ -25,6 +25,7 @@ use Rattle.rules.specs.Writing.{allLabelled, valid}
 use Rattle.rules.specs.Report as reports
 use Rattle.rules.specs.Report.{hour, pair, internal, end, refusal, pairLine, openLine, hourLines, linesOf, signedText, reportTexts, report}
 use Rattle.rules.specs.declared.Hour.{Hour}
+use Rattle.rules.specs.declared.InternalSequence.{InternalSequence}
 use Rattle.rules.specs.declared.Plant.{Plant}
 use Rattle.rules.specs.declared.Plant.the-variants.{Unit as U, Purchase as P, Fixed as F}
 use Rattle.rules.specs.declared.Refusal.{Refusal}
@@ -111,7 +112,7 @@ labels-short h v =
 
 -- Lines.
 
-pair-short : (d : Chars) (n : ℕ) (s : Chars) (x y z : ℤ) → length (escape d) ≤ 32 → n < 1000 → length (escape s) ≤ 32
+pair-short : (d : Chars) (n : InternalSequence) (s : Chars) (x y z : ℤ) → length (escape d) ≤ 32 → n .0 < 1000 → length (escape s) ≤ 32
     → natAbs x ≤ 200_000_000_000_000 → natAbs y ≤ 200_000_000_000_000 → natAbs z ≤ 200_000_000_000_000
     → (rest : List ℕ) → length (printed (pair d n s x y z) rest) ≤ 125 + length rest
 pair-short d n s x y z dl nl sl xl yl zl rest =
@@ -119,17 +120,17 @@ pair-short d n s x y z dl nl sl xl yl zl rest =
     let b = signedText y ++ (32 ∷ a) in
     let c = signedText x ++ (32 ∷ b) in
     let e = escape s ++ (34 ∷ 32 ∷ c) in
-    let f = digits n ++ (32 ∷ 34 ∷ e) in
+    let f = digits (n .0) ++ (32 ∷ 34 ∷ e) in
     omega (
       arith,
       ap length (pair-line d n s x y z rest),
       length-append (escape d) (34 ∷ 32 ∷ f),
-      length-append (digits n) (32 ∷ 34 ∷ e),
+      length-append (digits (n .0)) (32 ∷ 34 ∷ e),
       length-append (escape s) (34 ∷ 32 ∷ c),
       length-append (signedText x) (32 ∷ b),
       length-append (signedText y) (32 ∷ a),
       length-append (signedText z) (10 ∷ rest),
-      number-short n nl,
+      number-short (n .0) nl,
       signed-short x xl,
       signed-short y yl,
       signed-short z zl,

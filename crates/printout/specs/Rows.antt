@@ -34,13 +34,13 @@ abbrev pub partAt : List ℕ → List Place → ℕ → List ℕ
 partAt deck ps i = bytesOf deck (getD ps i nowhere)
 
 -- a delivery with source i, its cells from a place on
-abbrev pub pairAt : List ℕ → List Place → List ℤ → ℕ → List ℕ → ℕ → ℕ → Text
+abbrev pub pairAt : List ℕ → List Place → List ℤ → ℕ → List ℕ → InternalSequence → ℕ → Text
 pairAt deck sources cells base delivery number i =
     pairText delivery number (partAt deck sources i) (cellAt cells (base + i * 4)) (cellAt cells (base + i * 4 + 1))
     (cellAt cells (base + i * 4 + 2) +ℤ cellAt cells (base + i * 4 + 3))
 
 -- a delivery with each of n sources
-abbrev pub rowText : List ℕ → List Place → ℕ → List ℤ → ℕ → List ℕ → ℕ → Text
+abbrev pub rowText : List ℕ → List Place → ℕ → List ℤ → ℕ → List ℕ → InternalSequence → Text
 rowText deck sources n cells base delivery number = upTo (pairAt deck sources cells base delivery number) n
 
 -- delivery j with each source
@@ -51,14 +51,14 @@ rowAt deck sources n deliveries numbers cells j = rowText deck sources n cells (
 abbrev pub openAt : List ℕ → List Place → List ℤ → ℕ → ℕ → Text
 openAt deck sources cells base i = openText (partAt deck sources i) (cellAt cells (base + i * 2)) (cellAt cells (base + i * 2 + 1))
 
-pub front-pair-at : (deck : List ℕ) (sources : List Place) (cells : List ℤ) (base : ℕ) (delivery : List ℕ) (number i : ℕ) → Front (pairAt deck sources cells base delivery number i)
+pub front-pair-at : (deck : List ℕ) (sources : List Place) (cells : List ℤ) (base : ℕ) (delivery : List ℕ) (number : InternalSequence) (i : ℕ) → Front (pairAt deck sources cells base delivery number i)
 front-pair-at deck sources cells base delivery number i =
     front-pair delivery number (partAt deck sources i) (cellAt cells (base + i * 4)) (cellAt cells (base + i * 4 + 1)) (cellAt cells (base + i * 4 + 2) +ℤ cellAt cells (base + i * 4 + 3))
 
 pub front-open-at : (deck : List ℕ) (sources : List Place) (cells : List ℤ) (base i : ℕ) → Front (openAt deck sources cells base i)
 front-open-at deck sources cells base i = front-open (partAt deck sources i) (cellAt cells (base + i * 2)) (cellAt cells (base + i * 2 + 1))
 
-pub front-row : (deck : List ℕ) (sources : List Place) (n : ℕ) (cells : List ℤ) (base : ℕ) (delivery : List ℕ) (number : ℕ) → Front (rowText deck sources n cells base delivery number)
+pub front-row : (deck : List ℕ) (sources : List Place) (n : ℕ) (cells : List ℤ) (base : ℕ) (delivery : List ℕ) (number : InternalSequence) → Front (rowText deck sources n cells base delivery number)
 front-row deck sources n cells base delivery number = front-upTo (pairAt deck sources cells base delivery number) (λ i. front-pair-at deck sources cells base delivery number i) n
 
 pub front-opens : (deck : List ℕ) (sources : List Place) (cells : List ℤ) (base n : ℕ) → Front (upTo (openAt deck sources cells base) n)
@@ -89,7 +89,7 @@ module _ (deck : List ℕ) (sources : List Place) (cells : List ℤ) (base i : �
       → openText part (held (cellAt cells (base + i * 2))) (held (cellAt cells (base + i * 2 + 1))) rest ≡ openAt deck sources cells base i rest
   open-at-held a b rest = open-held part a b rest ∙ ap (λ (w : List ℕ). openText w (cellAt cells (base + i * 2)) (cellAt cells (base + i * 2 + 1)) rest) e
 
-  pub pair-at-held : (delivery : List ℕ) (number : ℕ) (cost : ℤ) → SFits w64 (cellAt cells (base + i * 4)) → SFits w64 (cellAt cells (base + i * 4 + 1))
+  pub pair-at-held : (delivery : List ℕ) (number : InternalSequence) (cost : ℤ) → SFits w64 (cellAt cells (base + i * 4)) → SFits w64 (cellAt cells (base + i * 4 + 1))
       → SFits w64 (cellAt cells (base + i * 4 + 2)) → SFits w64 (cellAt cells (base + i * 4 + 3)) → SmallCell (cellAt cells (base + i * 4 + 2)) → SmallCell (cellAt cells (base + i * 4 + 3))
       → cost ≡ held (cellAt cells (base + i * 4 + 2)) +ℤ held (cellAt cells (base + i * 4 + 3)) → (rest : List ℕ)
       → pairText delivery number part (held (cellAt cells (base + i * 4))) (held (cellAt cells (base + i * 4 + 1))) (held cost) rest

@@ -4,17 +4,18 @@ ghost use mathlib.Core.Path.{_≡_};
 ghost use mathlib.Core.List.{[], _++_};
 ghost use Prim.Native.Nat.{_+_, _*_, _≤_};
 ghost use lib.ListN.{length, drop};
+ghost use Rattle.rules.specs.Answers.{writtenOf};
 ghost use Rattle.rules.specs.Report.{report};
 ghost use Rattle.rules.specs.Calls.{reporting, leaves};
 ghost use Rattle.ink.specs.Inked.{Room, Inked, upTo};
 ghost use Rattle.printout.specs.Rows.{Held, SmallFirst, rowText, rowAt, openAt};
 ghost use Rattle.printout.specs.HourRows.{Answered};
-ghost use Rattle.printout.specs.Printing.{printedOf};
 use deck::Place;
 use deck::ScannedDeck;
-use hour::Verdict;
-use reconstruct::Reconstructed;
 use rules::InternalSequence;
+use rules::Refusal;
+use rules::Verdict;
+use rules::Written;
 
 // A delivery with each source: the sources' labels at their places in the deck, the pairs' cells from a place on.
 fn put_row(
@@ -26,7 +27,7 @@ fn put_row(
     cells: &[i64],
     base: usize,
     delivery: &[u8],
-    number: u32,
+    number: InternalSequence,
 ) -> usize
     requires { ⌜ (n ≤ 32) × Held (now deck) sources × SmallFirst (now cells) (base + n * 4) × Room (now buf) at (rowText (now deck) sources n (now cells) base (now delivery) number []) ⌝ }
     ensures { λ r. ⌜ Inked (now (buf .entry)) at (now (buf .exit)) r (rowText (now (deck .entry)) sources n (now (cells .entry)) base (now (delivery .entry)) number) ⌝ }
@@ -67,7 +68,7 @@ fn put_rows(
         let place = deliveries[j];
         let delivery = deck::part_at(deck, place);
         let x = numbers[j];
-        p = put_row(buf, p, deck, sources, n, cells, j * (n * 4), delivery, x.0);
+        p = put_row(buf, p, deck, sources, n, cells, j * (n * 4), delivery, x);
         j += 1;
     }
     p
@@ -139,7 +140,7 @@ fn put_report(buf: &mut [u8], deck: &[u8]) -> usize
     let h = x.hour;
     let mut cells = [0i64; 4160];
     let end = reconstruct::price(h, &mut cells);
-    if let Reconstructed::Refused(r) = end {
+    if let Written::Refused(r) = end {
         return sheet::put_refusal(buf, 0, r);
     }
     let deliveries = h.deliveries;
@@ -147,21 +148,16 @@ fn put_report(buf: &mut [u8], deck: &[u8]) -> usize
     put_hour(buf, deck, x, numbers, &cells)
 }
 
-pub enum Printed {
-    Bytes(usize),
-    Short,
-}
-
 // The report of a deck into a lent buffer: nothing changed where that is too short.
-pub fn report(deck: &[u8], out: &mut [u8]) -> Printed
-    ensures outcome { λ r. ⌜ r ≡ printedOf (reporting (now (deck .entry)) (length (now (out .entry)))) ⌝ }
+pub fn report(deck: &[u8], out: &mut [u8]) -> Written
+    ensures outcome { λ r. ⌜ r ≡ writtenOf (reporting (now (deck .entry)) (length (now (out .entry)))) ⌝ }
     ensures bytes { λ _. ⌜ now (out .exit) ≡ leaves (reporting (now (deck .entry)) (length (now (out .entry)))) (now (out .entry)) ⌝ }
 {
     let mut text = [0u8; 131072];
     let n = put_report(&mut text, deck);
     if out.len() < n {
-        return Printed::Short;
+        return Written::Refused(Refusal::Short);
     }
     ink::put_bytes(out, 0, &text[0..n]);
-    Printed::Bytes(n)
+    Written::Count(n)
 }

@@ -8,31 +8,26 @@ use lib.Dec.{ltb}
 use lib.ListN.{length, take, drop}
 use lib.Seq.{take-append-seam}
 use borrow.Author.Tests.{le-ltb, lt-ltb}
-use Rattle.rules.specs.Refusals.{Outcome, accepted, refused, refuse}
+use Rattle.rules.specs.Answers.{writtenOf}
+use Rattle.rules.specs.Refusals.{accepted, refused, refuse}
 use Rattle.rules.specs.Writing.{deckText, valid}
 use Rattle.rules.specs.Calls as calls
 use Rattle.rules.specs.Calls.{writing, leaves}
 use Rattle.rules.specs.declared.Hour.{Hour}
-use Rattle.rules.specs.declared.Refusal.the-variants.{Short as TooShort, NoDeck}
-use Rattle.put.specs.declared.Wrote.{Wrote}
-use Rattle.put.specs.declared.Wrote.the-variants.{Bytes, Short}
+use Rattle.rules.specs.declared.Refusal.the-variants.{Short, NoDeck}
+use Rattle.rules.specs.declared.Written.the-variants.{Count, Refused}
 use Rattle.ink.specs.Inked.{Room, Inked, inked-first}
-
--- how many bytes were written, or that there was no room
-abbrev pub wroteOf : Outcome (List ℕ) → Wrote
-wroteOf (accepted w) = Bytes (length w)
-wroteOf (refused r) = Short
 
 module _ (h : Hour) (size : ℕ) where
   pub writing-refused : valid h ≡ false → writing h size ≡ refused NoDeck
   unfolding calls.writing
   writing-refused e = rw e
 
-  pub writing-valid : valid h ≡ true → writing h size ≡ refuse (ltb size (length (deckText h))) TooShort (accepted (deckText h))
+  pub writing-valid : valid h ≡ true → writing h size ≡ refuse (ltb size (length (deckText h))) Short (accepted (deckText h))
   unfolding calls.writing
   writing-valid e = rw e
 
-  pub writing-short : valid h ≡ true → size < length (deckText h) → writing h size ≡ refused TooShort
+  pub writing-short : valid h ≡ true → size < length (deckText h) → writing h size ≡ refused Short
   writing-short e lt = writing-valid e ∙ rw (lt-ltb size (length (deckText h)))
 
   pub writing-fits : valid h ≡ true → length (deckText h) ≤ size → writing h size ≡ accepted (deckText h)
@@ -44,13 +39,13 @@ first-bytes w rest deck n e d =
     let k : n - 0 ≡ length w = omega arith in
     ap (λ (k : ℕ). take k deck) k ∙ ap (take (length w)) d ∙ take-append-seam w rest
 
--- what the verdict and the lent buffer come to
+-- what the answer and the lent buffer come to
 module _ (h : Hour) (out : List ℕ) (v : valid h ≡ true) (n : ℕ) (e : n ≡ length (deckText h)) where
-  pub wrote-short : length out < n → (Short ≡ wroteOf (writing h (length out))) × (out ≡ leaves (writing h (length out)) out)
+  pub wrote-short : length out < n → (Refused Short ≡ writtenOf (writing h (length out))) × (out ≡ leaves (writing h (length out)) out)
   wrote-short lt = let f = writing-short h (length out) v (omega arith) in (rw f, rw f)
 
   pub wrote-fits : (w after : List ℕ) (next : ℕ) → n ≤ length out → w ≡ deckText h → Inked out 0 after next (λ rest. w ++ rest)
-      → (Bytes n ≡ wroteOf (writing h (length out))) × (after ≡ leaves (writing h (length out)) out)
+      → (Count n ≡ writtenOf (writing h (length out))) × (after ≡ leaves (writing h (length out)) out)
   wrote-fits w after next le d i =
       let f = writing-fits h (length out) v (omega arith) in
       let whole : w ++ [] ≡ deckText h = append-nil w ∙ d in

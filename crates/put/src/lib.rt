@@ -9,24 +9,26 @@ ghost use Rattle.rules.specs.Lines.{lineText};
 ghost use Rattle.rules.specs.Record.{chars, sourceLine, deliveryLine, endLine};
 ghost use Rattle.rules.specs.Writing.{deckText, valid};
 ghost use Rattle.rules.specs.Calls.{writing, leaves};
+ghost use Rattle.rules.specs.Answers.{writtenOf};
 ghost use Rattle.ink.specs.Inked.{Room, Inked, upTo};
-ghost use Rattle.put.specs.Lines.{nameText, entryText, headLineOf, directLineOf};
+ghost use Rattle.put.specs.Lines.{nameText, entryText, headLineOf, unitFields, directLineOf};
 ghost use Rattle.put.specs.Deck.{sourceText, deliveryText, directText};
-ghost use Rattle.put.specs.Verdict.{wroteOf};
 use rules::Basis;
 use rules::Delivery;
 use rules::Hour;
 use rules::Label;
 use rules::Plant;
+use rules::Refusal;
 use rules::Source;
 use rules::Unit;
+use rules::Written;
 
 // A space and a label.
 fn put_name(buf: &mut [u8], at: usize, l: Label) -> usize
     requires { ⌜ Room (now buf) at (nameText (chars l) []) ⌝ }
     ensures { λ r. ⌜ Inked (now (buf .entry)) at (now (buf .exit)) r (nameText (chars l)) ⌝ }
 {
-    let p = ink::put_byte(buf, at, 32);
+    let p = ink::put_byte(buf, at, b' ');
     ink::put_label(buf, p, l)
 }
 
@@ -38,23 +40,41 @@ fn put_entry(buf: &mut [u8], at: usize, letter: u8, vs: &[u32], l: Label) -> usi
     let p = ink::put_byte(buf, at, letter);
     let q = ink::put_numbers(buf, p, vs);
     let r = put_name(buf, q, l);
-    ink::put_byte(buf, r, 10)
+    ink::put_byte(buf, r, b'\n')
 }
 
 fn put_head(buf: &mut [u8], at: usize, losses: u32) -> usize
     requires { ⌜ Room (now buf) at (lineText (headLineOf losses) []) ⌝ }
     ensures { λ r. ⌜ Inked (now (buf .entry)) at (now (buf .exit)) r (lineText (headLineOf losses)) ⌝ }
 {
-    let p = ink::put_byte(buf, at, 72);
+    let p = ink::put_byte(buf, at, b'H');
     let q = ink::put_spaced(buf, p, losses);
-    ink::put_byte(buf, q, 10)
+    ink::put_byte(buf, q, b'\n')
 }
 
 fn put_end(buf: &mut [u8], at: usize) -> usize
     requires { ⌜ Room (now buf) at (lineText endLine []) ⌝ }
     ensures { λ r. ⌜ Inked (now (buf .entry)) at (now (buf .exit)) r (lineText endLine) ⌝ }
 {
-    ink::put_two(buf, at, 69, 10)
+    ink::put_two(buf, at, b'E', b'\n')
+}
+
+fn unit_fields(u: Unit) -> [u32; 10]
+    ensures { λ r. ⌜ r ≡ unitFields u ⌝ }
+{
+    let curve = u.curve;
+    [
+        u.g,
+        u.h,
+        u.n,
+        u.o,
+        u.e,
+        curve.k(),
+        curve.a(),
+        curve.b(),
+        curve.c(),
+        curve.r(),
+    ]
 }
 
 fn put_source(buf: &mut [u8], at: usize, x: Source) -> usize
@@ -65,17 +85,16 @@ fn put_source(buf: &mut [u8], at: usize, x: Source) -> usize
     let l = x.label;
     match p {
         Plant::Unit(u) => {
-            let c = u.curve;
-            let vs = [u.g, u.h, u.n, u.o, u.e, c.k, c.a, c.b, c.c, c.r];
-            put_entry(buf, at, 85, &vs, l)
+            let vs = unit_fields(u);
+            put_entry(buf, at, b'U', &vs, l)
         }
         Plant::Purchase { g, rate } => {
             let vs = [g, rate];
-            put_entry(buf, at, 80, &vs, l)
+            put_entry(buf, at, b'P', &vs, l)
         }
         Plant::Fixed { g } => {
             let vs = [g];
-            put_entry(buf, at, 70, &vs, l)
+            put_entry(buf, at, b'F', &vs, l)
         }
     }
 }
@@ -87,7 +106,7 @@ fn put_delivery(buf: &mut [u8], at: usize, x: Delivery) -> usize
     let s = x.sequence;
     let l = x.label;
     let vs = [s.0, x.kind, x.block, x.mwh];
-    put_entry(buf, at, 84, &vs, l)
+    put_entry(buf, at, b'T', &vs, l)
 }
 
 fn put_direct(
@@ -101,12 +120,12 @@ fn put_direct(
     requires { ⌜ Room (now buf) at (lineText (directLineOf x percent (chars unit) (chars delivery)) []) ⌝ }
     ensures { λ r. ⌜ Inked (now (buf .entry)) at (now (buf .exit)) r (lineText (directLineOf x percent (chars unit) (chars delivery))) ⌝ }
 {
-    let p = ink::put_two(buf, at, 68, 32);
+    let p = ink::put_two(buf, at, b'D', b' ');
     let q = ink::put_basis(buf, p, x);
     let r = ink::put_spaced(buf, q, percent);
     let s = put_name(buf, r, unit);
     let t = put_name(buf, s, delivery);
-    ink::put_byte(buf, t, 10)
+    ink::put_byte(buf, t, b'\n')
 }
 
 fn put_sources(buf: &mut [u8], at: usize, h: Hour) -> usize
@@ -174,22 +193,17 @@ pub fn put_deck(buf: &mut [u8], h: Hour) -> usize
     put_end(buf, s)
 }
 
-pub enum Wrote {
-    Bytes(usize),
-    Short,
-}
-
 // The deck of a valid hour into a lent buffer: 14, and nothing changed, where that is too short.
-pub fn write_valid(h: Hour, out: &mut [u8]) -> Wrote
+pub fn write_valid(h: Hour, out: &mut [u8]) -> Written
     requires { ⌜ valid h ≡ true ⌝ }
-    ensures outcome { λ r. ⌜ r ≡ wroteOf (writing h (length (now (out .entry)))) ⌝ }
+    ensures outcome { λ r. ⌜ r ≡ writtenOf (writing h (length (now (out .entry)))) ⌝ }
     ensures bytes { λ r. ⌜ now (out .exit) ≡ leaves (writing h (length (now (out .entry)))) (now (out .entry)) ⌝ }
 {
     let mut deck = [0u8; 8192];
     let n = put_deck(&mut deck, h);
     if out.len() < n {
-        return Wrote::Short;
+        return Written::Refused(Refusal::Short);
     }
     ink::put_bytes(out, 0, &deck[0..n]);
-    Wrote::Bytes(n)
+    Written::Count(n)
 }

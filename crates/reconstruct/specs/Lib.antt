@@ -1,4 +1,3 @@
-pub mod Answers
 pub mod CellsCleared
 pub mod CellsWritten
 pub mod WholeAnswer

@@ -5,7 +5,7 @@ use mathlib.Core.Path.{_≡_, refl, sym, ap, _∙_}
 use Prim.Native.Nat.{ℕ, _+_, _*_, _≤_, _<_}
 use native.Mathlib.Nat.{mul-le-mul}
 use native.Mathlib.Omega.{arith}
-use borrow.Author.Tests.{lt-ltb, le-ltb, eq-eqb, eqb-true}
+use borrow.Author.Tests.{lt-ltb, le-ltb}
 use lib.IntN.{ℤ, pos}
 use lib.ListN.{length, getD, take, drop, length-drop, take-append-drop}
 use lib.Seq.{getD-drop, ext-getD}
@@ -13,16 +13,14 @@ use Rattle.accounts.specs.EveryGroupIsDone.{every-group-is-done}
 use Rattle.amounts.specs.Amounts.{told}
 use Rattle.balance.specs.AnswerCells.{cellAt, cells-length}
 use Rattle.group.specs.declared.Settled.{Settled}
-use Rattle.group.specs.declared.Verdict.the-variants as verdict
+use Rattle.laws.specs.Internal.{number-same, number-itself}
 use Rattle.members.specs.Leads.{AllGiven, AllShared, all-given, all-shared}
 use Rattle.members.specs.Members.{MwhsOf}
 use Rattle.members.specs.Shared.{DeliveriesSmall}
-use Rattle.reconstruct.specs.Answers.{reconstructedOf}
 use Rattle.reconstruct.specs.CellsCleared.{Cleared}
 use Rattle.reconstruct.specs.CellsWritten.{Held, OpenFits, OpenPut, cells-written}
-use Rattle.reconstruct.specs.declared.Reconstructed.{Reconstructed}
-use Rattle.reconstruct.specs.declared.Reconstructed.the-variants.{Cells, Refused}
 use Rattle.roundtrip.specs.GivenHour.{valid-given}
+use Rattle.rules.specs.Answers.{writtenOf}
 use Rattle.rules.specs.Calls.{reconstruction, leaves}
 use Rattle.rules.specs.Hour.{internalAt, numbers, share, Progress, groups, reconstructed, cellsOf, cellCount, answer}
 use Rattle.rules.specs.Refusals.{Outcome, accepted, refused, andThen}
@@ -31,6 +29,9 @@ use Rattle.rules.specs.declared.Hour.{Hour}
 use Rattle.rules.specs.declared.InternalSequence.{InternalSequence}
 use Rattle.rules.specs.declared.Refusal.{Refusal}
 use Rattle.rules.specs.declared.Refusal.the-variants.{Short, NoDeck}
+use Rattle.rules.specs.declared.Verdict.the-variants.{Accepted, Refused as RefusedBy}
+use Rattle.rules.specs.declared.Written.{Written}
+use Rattle.rules.specs.declared.Written.the-variants.{Count, Refused}
 use Rattle.sequence.specs.Placings.{Placeable, placings, placings-same}
 use Rattle.sequence.specs.SameGroups.{same-groups}
 use Rattle.turns.specs.GroupTurns.{Turned}
@@ -39,8 +40,8 @@ use Rattle.turns.specs.MwhsListed.{deliveries-small}
 use Rattle.turns.specs.StatesStayReady.{groups-stand}
 
 -- what is answered, and what is left of the lent cells
-abbrev pub Answers : Hour → List ℤ → Reconstructed → List ℤ → Type 0
-Answers h out r left = (r ≡ reconstructedOf (reconstruction h (length out))) × (left ≡ leaves (reconstruction h (length out)) out)
+abbrev pub Answers : Hour → List ℤ → Written → List ℤ → Type 0
+Answers h out r left = (r ≡ writtenOf (reconstruction h (length out))) × (left ≡ leaves (reconstruction h (length out)) out)
 
 module _ (h : Hour) (out : List ℤ) where
   answers-refused : (y : Refusal) → reconstruction h (length out) ≡ refused y → Answers h out (Refused y) out
@@ -86,11 +87,11 @@ module _ (h : Hour) (ns : List InternalSequence) (r : Settled) (ms led direct mo
       rw (w .valid, le-ltb size (cellCount h) l)
       (ap (λ (q : Outcome Progress). andThen q (λ p. accepted (cellsOf h p))) (sym (same-groups h ns (numbers h) same 1000) ∙ f))
 
-  pub hour-refused : (out : List ℤ) (y : Refusal) → cellCount h ≤ length out → r .verdict ≡ verdict.Refused y → Answers h out (Refused y) out
+  pub hour-refused : (out : List ℤ) (y : Refusal) → cellCount h ≤ length out → r .verdict ≡ RefusedBy y → Answers h out (Refused y) out
   hour-refused out y l q = answers-refused h out y (run-is (length out) l (refused y) (w .turned .ended y q))
 
   -- all groups are done: the pairs' cells are cleared, each member's are written, and the open cells after them
-  module _ (q : r .verdict ≡ verdict.Done) where
+  module _ (q : r .verdict ≡ Accepted) where
     abbrev pairs : ℕ
     pairs = h .ndeliveries * (h .nsources * 4)
 
@@ -117,12 +118,12 @@ module _ (h : Hour) (ns : List InternalSequence) (r : Settled) (ms led direct mo
         held : Held h ys (reached .progress .cells)
         held = record {
           at = λ j i item a b.
-              let o = reached .kept .owed j a (omega arith) (omega (arith, same j, every-group-is-done h (w .valid) j)) in
-              let e : internalAt ns (o .lead) ≡ internalAt ns j = eqb-true (internalAt ns (o .lead)) (internalAt ns j) (o .leads .number) in
+              let o = reached .kept .owed j a (omega arith) (omega (arith, ap (λ (x : InternalSequence). x .0) (same j), every-group-is-done h (w .valid) j)) in
+              let e : internalAt ns (o .lead) ≡ internalAt ns j = number-same (internalAt ns (o .lead)) (internalAt ns j) (o .leads .number) in
               let t = told (getD direct (o .lead * 32 + i) 0) (getD moved (o .lead * 32 + i) 0) item in
               all-shared h ms (w .mwhs) small ns led direct moved xs ys s (o .lead) j i item (o .leads .within) (o .marked) a
-              (eq-eqb (internalAt ns j) (internalAt ns (o .lead)) (sym e)) b ∙
-              ap (λ (x : ℕ). share h ns x t j) e ∙ sym (o .cell i item b);
+              (rw e (number-itself (internalAt ns j))) b ∙
+              ap (λ (x : InternalSequence). share h ns x t j) e ∙ sym (o .cell i item b);
         }
 
         module _ (left : List ℤ) (put : OpenPut (r .states) pairs (h .nsources) ys left) where
@@ -137,7 +138,7 @@ module _ (h : Hour) (ns : List InternalSequence) (r : Settled) (ms led direct mo
               ext-getD (pos 0) (drop (cellCount h) left) (drop (cellCount h) out) (omega (arith, length-drop (cellCount h) left, length-drop (cellCount h) out, as-long))
               (λ k b. getD-drop (cellCount h) left k (pos 0) ∙ beyond (cellCount h + k) (omega arith) ∙ sym (getD-drop (cellCount h) out k (pos 0)))
 
-          pub hour-done : Answers h out (Cells (cellCount h)) left
+          pub hour-done : Answers h out (Count (cellCount h)) left
           hour-done =
               let p = reached .progress in
               let cells : take (cellCount h) left ≡ cellsOf h p = cells-written h p ys left held (rw (reached .states) at put) (omega (arith, as-long)) in

@@ -1,23 +1,18 @@
 // Document 01's whole hour: every group from the highest number down, by either engine, and the answer's cells into a lent buffer.
-// The promise cites rules' Calls: reconstruction, and leaves for the buffer. The other contracts cite specs/.
+// The promise cites rules' Calls: reconstruction, and leaves for the buffer; and Answers. The other contracts cite specs/.
 ghost use mathlib.Core.Path.{_≡_};
 ghost use Prim.Native.Nat.{_≤_};
 ghost use lib.IntN.{pos};
 ghost use lib.ListN.{length};
+ghost use Rattle.rules.specs.Answers.{writtenOf};
 ghost use Rattle.rules.specs.Calls.{reconstruction, leaves};
-ghost use Rattle.reconstruct.specs.Answers.{reconstructedOf};
 ghost use Rattle.reconstruct.specs.CellsCleared.{Cleared};
 ghost use Rattle.reconstruct.specs.CellsWritten.{OpenFits, OpenPut};
-use group::Verdict;
 use rules::Hour;
 use rules::Refusal;
 use rules::Running;
-
-// How many cells were written, or why none.
-pub enum Reconstructed {
-    Cells(usize),
-    Refused(Refusal),
-}
+use rules::Verdict;
+use rules::Written;
 
 fn cell(x: u64) -> i64
     requires { ⌜ x ≤ 100_000_000_000_000 ⌝ }
@@ -54,18 +49,18 @@ fn clear(cells: &mut [i64], n: usize)
     }
 }
 
-fn run(h: Hour, out: &mut [i64], by_price: bool) -> Reconstructed
-    ensures outcome { λ r. ⌜ r ≡ reconstructedOf (reconstruction h (length (now (out .entry)))) ⌝ }
+fn run(h: Hour, out: &mut [i64], by_price: bool) -> Written
+    ensures outcome { λ r. ⌜ r ≡ writtenOf (reconstruction h (length (now (out .entry)))) ⌝ }
     ensures cells { λ _. ⌜ now (out .exit) ≡ leaves (reconstruction h (length (now (out .entry)))) (now (out .entry)) ⌝ }
 {
     if !record::valid(h) {
-        return Reconstructed::Refused(Refusal::NoDeck);
+        return Written::Refused(Refusal::NoDeck);
     }
     let n = h.nsources;
     let pairs = h.ndeliveries * (n * 4);
     let count = pairs + n * 2;
     if out.len() < count {
-        return Reconstructed::Refused(Refusal::Short);
+        return Written::Refused(Refusal::Short);
     }
     let deliveries = h.deliveries;
     let placed = sequence::numbers(deliveries, h.ndeliveries);
@@ -84,28 +79,28 @@ fn run(h: Hour, out: &mut [i64], by_price: bool) -> Reconstructed
     );
     let verdict = end.verdict;
     match verdict {
-        Verdict::Done => {
+        Verdict::Accepted => {
             let states = end.states;
             clear(out, pairs);
             members::share_all(out, n, h.ndeliveries, &mwhs, placed, &led, &direct, &moved);
             put_open(out, pairs, states, n);
-            Reconstructed::Cells(count)
+            Written::Count(count)
         }
-        Verdict::Refused(r) => Reconstructed::Refused(r),
+        Verdict::Refused(r) => Written::Refused(r),
     }
 }
 
 // By the plain rule, one MWh at a time.
-pub fn plain(h: Hour, out: &mut [i64]) -> Reconstructed
-    ensures outcome { λ r. ⌜ r ≡ reconstructedOf (reconstruction h (length (now (out .entry)))) ⌝ }
+pub fn plain(h: Hour, out: &mut [i64]) -> Written
+    ensures outcome { λ r. ⌜ r ≡ writtenOf (reconstruction h (length (now (out .entry)))) ⌝ }
     ensures cells { λ _. ⌜ now (out .exit) ≡ leaves (reconstruction h (length (now (out .entry)))) (now (out .entry)) ⌝ }
 {
     run(h, out, false)
 }
 
 // By a search for the price.
-pub fn price(h: Hour, out: &mut [i64]) -> Reconstructed
-    ensures outcome { λ r. ⌜ r ≡ reconstructedOf (reconstruction h (length (now (out .entry)))) ⌝ }
+pub fn price(h: Hour, out: &mut [i64]) -> Written
+    ensures outcome { λ r. ⌜ r ≡ writtenOf (reconstruction h (length (now (out .entry)))) ⌝ }
     ensures cells { λ _. ⌜ now (out .exit) ≡ leaves (reconstruction h (length (now (out .entry)))) (now (out .entry)) ⌝ }
 {
     run(h, out, true)

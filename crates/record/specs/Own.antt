@@ -6,6 +6,7 @@ use Prim.Native.Nat.{ℕ, zero, suc, _+_, _<_, _≤_}
 use lib.Dec.{leb, ltb, eqb}
 use lib.ListN.{length, getD, set, replicate}
 use Rattle.rules.specs.Words.{allTo}
+use Rattle.rules.specs.Answers.{verdictOf}
 use Rattle.rules.specs.Group.{noDirect}
 use Rattle.rules.specs.Sequences.{noDelivery}
 use Rattle.rules.specs.Record.{noSource}
@@ -15,14 +16,14 @@ use Rattle.rules.specs.declared.Source.{Source}
 use Rattle.rules.specs.declared.Delivery.{Delivery}
 use Rattle.rules.specs.declared.Direct.{Direct}
 use Rattle.rules.specs.declared.Hour.{Hour}
+use Rattle.rules.specs.declared.Verdict.{Verdict}
+use Rattle.rules.specs.declared.Verdict.the-variants.{Accepted, Refused}
 use Rattle.entries.specs.Shape.{ownLabel, sourceBlank, deliveryBlank, directBlank}
 use Rattle.ranges.specs.Inside.{plantInside, deliveryInside, directInside, lossesInside}
 use Rattle.hour.specs.Keys.{keyOf}
-use Rattle.hour.specs.Tried.{verdictOf, countsOf, sourceTried, deliveryTried, Tables, unitHigh, basisCode, belowMost, codeLeaves}
+use Rattle.hour.specs.Tried.{countsOf, sourceTried, deliveryTried, Tables, unitHigh, basisCode, belowMost, codeLeaves}
 use Rattle.hour.specs.declared.Key.{Key}
 use Rattle.hour.specs.declared.Counts.{Counts}
-use Rattle.hour.specs.declared.Verdict.{Verdict}
-use Rattle.hour.specs.declared.Verdict.the-variants.{Accepted, Refused}
 
 abbrev pub accepts : Verdict → Bool
 accepts Accepted = true

@@ -6,7 +6,7 @@ use Prim.Native.Nat.{ℕ, _≤_}
 use native.Mathlib.Omega.{arith}
 use lib.ListN.{getD, replicate}
 use Rattle.rules.specs.Words.{listTo, allTo}
-use Rattle.rules.specs.Refusals.{Outcome, accepted, refused}
+use Rattle.rules.specs.Refusals.{accepted}
 use Rattle.rules.specs.Lines.{Line}
 use Rattle.rules.specs.Group.{noDirect}
 use Rattle.rules.specs.Sequences.{noDelivery}
@@ -20,23 +20,19 @@ use Rattle.laws.specs.Choices.{false-not-true, both-true}
 use Rattle.roundtrip.specs.Taken.{finished-passed}
 use Rattle.roundtrip.specs.OwnLines.{OwnLines, head-passed, valid-own, own-valid, own-entries}
 use Rattle.ranges.specs.RangedIsInside.{losses-inside}
-use Rattle.hour.specs.Tried.{verdictOf, countsOf, Few}
+use Rattle.hour.specs.Tried.{countsOf, Few}
 use Rattle.entries.specs.Shape.{sourceBlank, deliveryBlank, directBlank}
 use Rattle.entries.specs.ShapeTells.{blank-source, blank-delivery, blank-direct, blanks-blank}
-use Rattle.record.specs.Own.{accepts, fillTo, tablesTo, sourceOwnAt, deliveryOwnAt, directOwnAt, Rest, Passes}
+use Rattle.record.specs.Own.{fillTo, tablesTo, sourceOwnAt, deliveryOwnAt, directOwnAt, Rest, Passes}
 use Rattle.record.specs.Fill.{fillTo-own}
 use Rattle.record.specs.Steps.{few-from, few-to}
 use Rattle.record.specs.Turns.{feed-append, labels-append, all-fed, fed-all}
-use Rattle.record.specs.SoFar.{soFar, started-is, started-kept, source-step, source-back, delivery-step, delivery-back, direct-step, direct-back}
+use Rattle.record.specs.SoFar.{soFar, accepts-told, started-is, started-kept, source-step, source-back, delivery-step, delivery-back, direct-step, direct-back}
 
 -- a list of 32 whose rest is blank is its first n elements and blanks
 filled : {A : Type 0} (xs : List A) (blank d : A) (test : A → Bool) → ((x : A) → test x ≡ true → x ≡ blank) → (n : ℕ) → n ≤ 32
     → Rest test d xs n → fillTo (λ i. getD xs i d) (replicate 32 blank) n ≡ xs
 filled xs blank d test tells n few r = fillTo-own xs blank d n (r .size) few (λ i l m. tells (getD xs i d) (r .blanks i l m))
-
-accepts-hour : (o : Outcome Hour) → accepts (verdictOf o) ≡ true → (h : Hour) × (o ≡ accepted h)
-accepts-hour (accepted h) e = (h, refl)
-accepts-hour (refused r) e = false-not-true e
 
 module _ (h : Hour) where
   sourceLines : ℕ → List Line
@@ -84,7 +80,7 @@ module _ (h : Hour) where
   unfolding reading.headed
   own-lines p =
       let g = given-lines p in
-      let f = accepts-hour (finished h) (p .done) in
+      let f = accepts-told (finished h) (p .done) in
       record {
         head = rw (losses-inside (h .losses, tt), p .losses);
         fed = ap (λ (m : Hour). feed m (body h)) (started-is h) ∙ g .fed ∙ ap accepted (whole (few-from (countsOf h) (p .few)) p);

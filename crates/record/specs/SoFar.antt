@@ -10,6 +10,7 @@ use lib.ListN.{getD, replicate, length-replicate}
 use lib.Seq.{getD-set-same}
 use borrow.Author.Tests.{lt-ltb}
 use Rattle.rules.specs.Words.{if_then_else_}
+use Rattle.rules.specs.Answers.{verdictOf}
 use Rattle.rules.specs.Refusals.{Outcome, accepted, refused, refuse, andThen}
 use Rattle.rules.specs.Fields.{isLabel}
 use Rattle.rules.specs.Lines as lines
@@ -28,13 +29,16 @@ use Rattle.rules.specs.declared.Direct.{Direct}
 use Rattle.rules.specs.declared.Hour.{Hour}
 use Rattle.rules.specs.declared.Refusal.{Refusal}
 use Rattle.rules.specs.declared.Refusal.the-variants.{Range, Full, Names, OtherBasis, Percents}
+use Rattle.rules.specs.declared.Verdict.{Verdict}
+use Rattle.rules.specs.declared.Verdict.the-variants.{Accepted, Refused}
+use Rattle.laws.specs.Answers.{verdict-accepted}
 use Rattle.laws.specs.Choices.{false-not-true, both-true, refused-not-accepted, accepted-same, then-passed}
 use Rattle.roundtrip.specs.Lines.{lineLabelled}
 use Rattle.ranges.specs.Inside as inside
 use Rattle.ranges.specs.Inside.{plantInside, deliveryInside, directInside}
 use Rattle.hour.specs.Keys.{keyOf, keyAt}
 use Rattle.hour.specs.Tried as tried
-use Rattle.hour.specs.Tried.{verdictOf, nextLine, sourceTried, deliveryTried, Tables, belowMost, codeLeaves, onPair, directTried}
+use Rattle.hour.specs.Tried.{nextLine, sourceTried, deliveryTried, Tables, belowMost, codeLeaves, onPair, directTried}
 use Rattle.hour.specs.KeyTells.{Labelled, labelled}
 use Rattle.hour.specs.Kept.{keyed-at, Kept}
 use Rattle.hour.specs.Pairs.{pair-at}
@@ -64,9 +68,13 @@ soFar h i j k =
       directs = fillTo (directAt h) (replicate 32 blankDirect) k;
     }
 
-accepts-told : (o : Outcome (Unit {0})) → accepts (verdictOf o) ≡ true → o ≡ accepted tt
-accepts-told (accepted u) e = refl
-accepts-told (refused r) e = false-not-true e
+-- an outcome whose verdict accepts
+pub accepts-told : {A : Type 0} (o : Outcome A) → accepts (verdictOf o) ≡ true → (a : A) × (o ≡ accepted a)
+accepts-told o e = verdict-accepted o (go (verdictOf o) e)
+  where
+    go : (v : Verdict) → accepts v ≡ true → v ≡ Accepted
+    go Accepted e = refl
+    go (Refused r) e = false-not-true e
 
 -- what was taken past the tables was let through by them
 passed-back : (o : Outcome (Unit {0})) (after mid : Hour) → andThen o (λ u. accepted after) ≡ accepted mid → (o ≡ accepted tt) × (after ≡ mid)
@@ -127,7 +135,7 @@ module _ (h : Hour) (i : ℕ) (k : Kept (soFar h i 0 0) (tablesTo h i 0 0)) wher
   source-step e =
       let b = both-true (ownLabel (sourceAt h i .label)) _ e in
       let p = own-labelled (sourceAt h i .label) (b .0) in
-      let t = accepts-told (source-tried-as (sourceAt h i .label)) (b .1) in
+      let t = accepts-told (source-tried-as (sourceAt h i .label)) (b .1) .1 in
       record {
         labels = plant-labelled (sourceAt h i .plant) (sourceAt h i .label) ∙ rw (p .label);
         goes = source-goes (sourceAt h i .label) (p .padded) p ∙ rw t (ap accepted source-next);
@@ -187,7 +195,7 @@ module _ (h : Hour) (j : ℕ) (k : Kept (soFar h (h .nsources) j 0) (tablesTo h 
   delivery-step e =
       let b = both-true (ownLabel (deliveryAt h j .label)) _ e in
       let p = own-labelled (deliveryAt h j .label) (b .0) in
-      let t = accepts-told (delivery-tried-as (deliveryAt h j .label)) (b .1) in
+      let t = accepts-told (delivery-tried-as (deliveryAt h j .label)) (b .1) .1 in
       record {
         labels = delivery-labelled (deliveryAt h j) ∙ rw (p .label);
         goes = delivery-goes (deliveryAt h j .label) (p .padded) p ∙ rw t (ap accepted delivery-next);

@@ -7,11 +7,11 @@ ghost use Rattle.hour.specs.Tried.{Few};
 ghost use Rattle.record.specs.Own.{sourceRuled, deliveryRuled, directOwn, fewEntries};
 use hour::Counts;
 use hour::Key;
-use hour::Verdict;
 use rules::Delivery;
 use rules::Direct;
 use rules::Hour;
 use rules::Plant;
+use rules::Verdict;
 
 fn wide(x: u32) -> u64
     ensures { λ r. ⌜ (r ≡ x) × (r < 4294967296) ⌝ }

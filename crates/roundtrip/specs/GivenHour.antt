@@ -11,12 +11,13 @@ use Rattle.rules.specs.Refusals.{accepted}
 use Rattle.rules.specs.Sequences.{noDelivery, toPlace}
 use Rattle.rules.specs.Group.{noDirect}
 use Rattle.rules.specs.Record.{noSource, deliveryAt, blankSource, blankDelivery, blankDirect, headLine, started}
-use Rattle.rules.specs.Reading.{percentsOf, generated, delivered, unplaced, placer, reading}
+use Rattle.rules.specs.Reading.{percentsOf, generated, delivered, unplaced, reading}
 use Rattle.rules.specs.Writing.{valid}
 use Rattle.rules.specs.declared.Hour.{Hour}
 use Rattle.laws.specs.Choices.{true-not-false}
 use Rattle.laws.specs.Lists.{findTo-passes, findTo-none}
 use Rattle.roundtrip.specs.Fields.{Inside, inside-from}
+use Rattle.roundtrip.specs.FirstUnplaced.{placer, none-numbered}
 use Rattle.roundtrip.specs.Taken.{finished-passed}
 use Rattle.roundtrip.specs.Entries.{SourceGiven, DeliveryGiven, DirectGiven, Filled, line-ranged}
 use Rattle.roundtrip.specs.AcceptedIsWriting.{reading-stands}
@@ -32,16 +33,12 @@ pub record GivenHour (h : Hour) : Type 0 where
   pub placer : (j : ℕ) → j < h .ndeliveries → toPlace (deliveryAt h j) ≡ true → (i : ℕ) × ((i < h .ndeliveries) × (toPlace (deliveryAt h i) ≡ false))
 
 -- a delivery to be placed has one that is
-placer-given : (h : Hour) → ((i : ℕ) → unplaced h ≡ some i → (j : ℕ) × (placer h ≡ some j)) → (j : ℕ) → j < h .ndeliveries → toPlace (deliveryAt h j) ≡ true
-    → (i : ℕ) × ((i < h .ndeliveries) × (toPlace (deliveryAt h i) ≡ false))
-placer-given h p j lt e = go (unplaced h) refl
+placer-given : (h : Hour) → unplaced h ≡ none → (j : ℕ) → j < h .ndeliveries → (i : ℕ) × ((i < h .ndeliveries) × (toPlace (deliveryAt h i) ≡ false))
+placer-given h u j lt = go (placer h) refl
   where
-    go : (u : Option ℕ) → unplaced h ≡ u → (i : ℕ) × ((i < h .ndeliveries) × (toPlace (deliveryAt h i) ≡ false))
-    go none ue = true-not-false (sym e ∙ findTo-none _ (h .ndeliveries) ue j lt)
-    go (some k) ue =
-        let i = p k ue in
-        let f = findTo-passes (λ i. not (toPlace (deliveryAt h i))) (h .ndeliveries) (i .0) (i .1) in
-        (i .0, (f .0, not-true (toPlace (deliveryAt h (i .0))) (f .1)))
+    go : (p : Option ℕ) → placer h ≡ p → (i : ℕ) × ((i < h .ndeliveries) × (toPlace (deliveryAt h i) ≡ false))
+    go none e = true-not-false (sym (none-numbered h e j lt) ∙ findTo-none _ (h .ndeliveries) u j lt)
+    go (some i) e = let f = findTo-passes (λ i. not (toPlace (deliveryAt h i))) (h .ndeliveries) i e in (i, (f .0, not-true (toPlace (deliveryAt h i)) (f .1)))
 
 own-given : (h : Hour) → OwnLines h → GivenHour h
 own-given h o =
@@ -54,7 +51,7 @@ own-given h o =
       directs = g .directs;
       percents = g .percents;
       drawn = f .drawn;
-      placer = placer-given h (f .placeable);
+      placer = λ j lt e. placer-given h (f .placed) j lt;
     }
 
 pub valid-given : (h : Hour) → valid h ≡ true → GivenHour h

@@ -2,6 +2,7 @@ pub mod Numbers
 pub mod Labels
 pub mod Fields
 pub mod Lines
+pub mod FirstUnplaced
 pub mod Taken
 pub mod Entries
 pub mod Grown

@@ -12,7 +12,7 @@ use Rattle.rules.specs.Lines.{Letter, H, U, P, F, T, D, E, Fields, fieldsOf, ra
 use Rattle.rules.specs.Record as record-of
 use Rattle.rules.specs.Record.{chars, labelOf, sameLabel, sourceAt, deliveryAt, started, withSource, withDelivery, withDirect, unitOf, purchaseOf, fixedOf, deliveryOf, sourceLine, deliveryLine, directLine, headLine}
 use Rattle.rules.specs.Reading as reading
-use Rattle.rules.specs.Reading.{sourceUsed, sourceTaken, deliveryUsed, deliveryTaken, unitNamed, deliveryNamed, named, basisKept, belowHigh, percentsOf, directTaken, takenAs, taken, headedAs, headed, generated, delivered, unplaced, placer, needsPlacer, finished, isEnd}
+use Rattle.rules.specs.Reading.{sourceUsed, sourceTaken, deliveryUsed, deliveryTaken, unitNamed, deliveryNamed, named, basisKept, belowHigh, percentsOf, directTaken, takenAs, taken, headedAs, headed, generated, delivered, unplaced, allPlaced, finished, isEnd}
 use Rattle.rules.specs.declared.Label.{Label}
 use Rattle.rules.specs.declared.Basis.{Basis}
 use Rattle.rules.specs.declared.Source.{Source}
@@ -223,16 +223,14 @@ headed-passed l h e = headed-as (l .letter) (l .fields) h e
 pub record Finished (h after : Hour) : Type 0 where
   pub same : h ≡ after
   pub drawn : h .losses + delivered h ≤ generated h
-  pub placeable : (i : ℕ) → unplaced h ≡ some i → (j : ℕ) × (placer h ≡ some j)
+  pub placed : unplaced h ≡ none
 
 pub finished-passed : (h after : Hour) → finished h ≡ accepted after → Finished h after
 unfolding reading.finished
 finished-passed h after e =
     let a = refuse-passed (ltb (generated h) (h .losses + delivered h)) Overdrawn _ after e in
-    go (ltb-false (generated h) (h .losses + delivered h) (a .0)) (unplaced h) refl (placer h) refl (a .1)
+    go (ltb-false (generated h) (h .losses + delivered h) (a .0)) (unplaced h) refl (a .1)
   where
-    go : h .losses + delivered h ≤ generated h → (u : Option ℕ) → unplaced h ≡ u → (p : Option ℕ) → placer h ≡ p → needsPlacer h u p ≡ accepted after
-        → Finished h after
-    go d none ue p pe e = record { same = accepted-same h after e; drawn = d; placeable = λ i k. none-not-some i (sym ue ∙ k) }
-    go d (some i) ue none pe e = refused-not-accepted _ after e
-    go d (some i) ue (some j) pe e = record { same = accepted-same h after e; drawn = d; placeable = λ _ _. (j, pe) }
+    go : h .losses + delivered h ≤ generated h → (u : Option ℕ) → unplaced h ≡ u → allPlaced h u ≡ accepted after → Finished h after
+    go d none ue e = record { same = accepted-same h after e; drawn = d; placed = ue }
+    go d (some i) ue e = refused-not-accepted _ after e

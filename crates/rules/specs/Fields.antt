@@ -18,7 +18,7 @@ abbrev pub onField : {A B : Type 0} → Field A → (A → ℕ → Field B) → 
 onField (got a next) after = after a next
 onField malformed after = malformed
 
--- the byte at a place; past the end a 0, which stands in no deck
+-- the byte at a place; past the end a 0, which no rule of the deck asks for
 abbrev pub byte : List ℕ → ℕ → ℕ
 byte s at = getD s at 0
 
@@ -43,11 +43,12 @@ numberAt s at =
     if eqb (byte s at) 48 && isDigit (byte s (at + 1)) then malformed else
     run 0 at (drop at s)
 
--- the last f digits at most; a number of 64 bits has at most 20
+-- the last f digits at most
 unfoldable pub digitsIn : ℕ → ℕ → List ℕ
 digitsIn zero v = []
 digitsIn (suc f) v = if ltb v 10 then (48 + v) ∷ [] else digitsIn f (v / 10) ++ ((48 + v % 10) ∷ [])
 
+-- all of them: a number below 2^64 has at most 20 (roundtrip/Numbers, digits-more)
 unfoldable pub digits : ℕ → List ℕ
 digits v = digitsIn 20 v
 

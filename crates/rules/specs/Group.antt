@@ -8,7 +8,7 @@ use lib.ListN.{getD, set}
 use lib.IntN.{ℤ, pos, negℤ}
 use Rattle.rules.specs.Words.{if_then_else_, sumTo}
 use Rattle.rules.specs.Refusals.{Outcome, accepted, refused}
-use Rattle.rules.specs.Units.{cost, generation, normalLow, oilLow, emergencyLow, movable}
+use Rattle.rules.specs.Units.{cost, generation, normalLow, oilLow, emergencyLow, movable, isUnit}
 use Rattle.rules.specs.declared.Unit.{Unit}
 use Rattle.rules.specs.declared.Plant.{Plant}
 use Rattle.rules.specs.declared.Plant.the-variants.{Unit as U, Purchase as P, Fixed as F}
@@ -37,9 +37,13 @@ opened p = record { plant = p; v = generation p; d = 0; b = 0; based = false; pe
 abbrev pub level : Running → ℕ
 level s = s .v + s .d
 
--- W as changed: "W(m) for m <= b is replaced by W(b)·m/b rounded down, 0 for b = 0" (a number over 0 is 0)
+-- "W(b)·m/b rounded down, 0 for b = 0"
+abbrev pub prorated : Running → ℕ → ℕ
+prorated s m = if eqb (s .b) 0 then 0 else cost (s .plant) (s .b) * m / s .b
+
+-- W as changed: "From then W(m) for m <= b is replaced"
 unfoldable pub changed : Running → ℕ → ℕ
-changed s m = if s .based && leb m (s .b) then cost (s .plant) (s .b) * m / (s .b) else cost (s .plant) m
+changed s m = if s .based && leb m (s .b) then prorated s m else cost (s .plant) m
 
 -- Direct.
 
@@ -54,8 +58,11 @@ abbrev pub basic : Running → Basis → ℕ
 basic s x = if s .based then s .b else min (s .v) (basis x (s .plant))
 
 -- the unit with its b set
+abbrev pub basedOn : Running → ℕ → Running
+basedOn s b = record { plant = s .plant; v = s .v; d = s .d; b = b; based = true; percent = s .percent; paid = s .paid }
+
 abbrev pub withBasic : Running → Basis → Running
-withBasic s x = record { plant = s .plant; v = s .v; d = s .d; b = basic s x; based = true; percent = s .percent; paid = s .paid }
+withBasic s x = basedOn s (basic s x)
 
 -- "D becomes b·P/100 rounded down; the increase leaves v .. the cost charged is that at the new D less that at the old D"
 abbrev pub renewed : Running → ℕ → Running
@@ -109,7 +116,7 @@ withOpen s v = record { plant = s .plant; v = v; d = s .d; b = s .b; based = s .
 
 pub record Way : Type 0 where
   pub room : Running → ℕ  -- by how many MWh a source may still be moved
-  pub first : Running → Running → Bool  -- whether a source goes before an earlier one
+  pub first : (later earlier : Running) → Bool  -- whether a source goes before one that stands earlier in the deck
   pub moved : Running → ℕ → Running  -- a source moved by so many MWh
 
 -- of an earlier choice and source i, the one to move
@@ -141,19 +148,24 @@ lowered s x = withOpen s (s .v - x)
 
 -- "lower the level with room whose top MWh .. costs most; a tie takes the earlier source"
 abbrev pub unloading : Rung → Way
-unloading x = record { room = room x; first = λ s t. ltb (top t) (top s); moved = lowered }
+unloading x = record { room = room x; first = λ later earlier. ltb (top earlier) (top later); moved = lowered }
 
 -- "falling average W(n)/n (W as changed, compared as exact fractions), a tie taking the earlier"
 abbrev pub averageLevel : Plant → ℕ
 averageLevel p = normalLow p
 
-abbrev pub dearerAverage : Running → Running → Bool
-dearerAverage s t =
-    ltb (changed t (averageLevel (t .plant)) * averageLevel (s .plant)) (changed s (averageLevel (s .plant)) * averageLevel (t .plant))
+abbrev pub dearerAverage : (later earlier : Running) → Bool
+dearerAverage later earlier =
+    ltb (changed earlier (averageLevel (earlier .plant)) * averageLevel (later .plant))
+    (changed later (averageLevel (later .plant)) * averageLevel (earlier .plant))
 
--- "lower units to b - D, one after another": their order does not change as they are lowered
+-- "lower units to b - D": of a unit alone
+unfoldable pub unitRoom : Running → ℕ
+unitRoom s = if isUnit (s .plant) then room last s else 0
+
+-- "one after another": their order does not change as they are lowered
 abbrev pub lastStep : Way
-lastStep = record { room = room last; first = dearerAverage; moved = lowered }
+lastStep = record { room = unitRoom; first = dearerAverage; moved = lowered }
 
 -- "U may rise to level h, but only if its level is at least e; P may rise to v = g."
 abbrev pub headroomOf : Plant → Running → ℕ
@@ -173,7 +185,7 @@ raised s x = withOpen s (s .v + x)
 
 -- "raise the cheapest next MWh; a tie takes the later source"
 abbrev pub crediting : Way
-crediting = record { room = headroom; first = λ s t. leb (following s) (following t); moved = raised }
+crediting = record { room = headroom; first = λ later earlier. leb (following later) (following earlier); moved = raised }
 
 -- the room of the first n sources together
 abbrev pub all : (Running → ℕ) → List Running → ℕ → ℕ

@@ -8,7 +8,7 @@ use lib.ListN.{getD, take}
 use lib.IntN.{ℤ, pos}
 use Rattle.rules.specs.Words.{if_then_else_, sumTo, listTo}
 use Rattle.rules.specs.Refusals.{Outcome, accepted, andThen}
-use Rattle.rules.specs.Sequences.{noDelivery, numbered}
+use Rattle.rules.specs.Sequences.{noDelivery, sameNumber, numbered}
 use Rattle.rules.specs.Group.{noRunning, opened, groupLines, remainder, Amount, signed, Item, directMwh, incrementalMwh, directCost, incrementalCost, amount, upTo, openCost}
 use Rattle.rules.specs.declared.InternalSequence.{InternalSequence}
 use Rattle.rules.specs.declared.Hour.{Hour}
@@ -26,22 +26,22 @@ orNone (some x) = x
 unfoldable pub numbers : Hour → List InternalSequence
 numbers h = map (λ t. orNone (numbered (h .deliveries) (h .ndeliveries) t)) (take (h .ndeliveries) (h .deliveries))
 
-abbrev pub internalAt : List InternalSequence → ℕ → ℕ
-internalAt ns j = getD ns j noNumber .0
+abbrev pub internalAt : List InternalSequence → ℕ → InternalSequence
+internalAt ns j = getD ns j noNumber
 
 -- "Deliveries with equal internal numbers form a group": those of number x
-abbrev pub member : List InternalSequence → ℕ → ℕ → Bool
-member ns x j = eqb (internalAt ns j) x
+abbrev pub member : List InternalSequence → InternalSequence → ℕ → Bool
+member ns x j = sameNumber (internalAt ns j) x
 
 -- the MWh of the group's members among the first j deliveries, and how many they are
-abbrev pub scheduled : Hour → List InternalSequence → ℕ → ℕ → ℕ
+abbrev pub scheduled : Hour → List InternalSequence → InternalSequence → ℕ → ℕ
 scheduled h ns x j = sumTo (λ i. if member ns x i then getD (h .deliveries) i noDelivery .mwh else 0) j
 
-abbrev pub counted : List InternalSequence → ℕ → ℕ → ℕ
+abbrev pub counted : List InternalSequence → InternalSequence → ℕ → ℕ
 counted ns x j = sumTo (λ i. if member ns x i then 1 else 0) j
 
 -- "each member getting the increase, with the amount's sign"
-unfoldable pub share : Hour → List InternalSequence → ℕ → Amount → ℕ → ℤ
+unfoldable pub share : Hour → List InternalSequence → InternalSequence → Amount → ℕ → ℤ
 share h ns x a j =
     let total = scheduled h ns x (h .ndeliveries) in
     signed (a .minus)
@@ -57,7 +57,7 @@ pub record Progress : Type 0 where
   pub cells : Cells
 
 -- the group's shares in place of what its members had
-unfoldable pub shared : Hour → List InternalSequence → ℕ → List Running → List Running → List Running → Cells → Cells
+unfoldable pub shared : Hour → List InternalSequence → InternalSequence → List Running → List Running → List Running → Cells → Cells
 shared h ns x ss ts us cell j i item =
     if member ns x j then share h ns x (amount item (getD ss i noRunning) (getD ts i noRunning) (getD us i noRunning)) j else cell j i item
 
@@ -66,21 +66,25 @@ abbrev pub tookAll : ℕ → List Running → List Running → ℕ
 tookAll n ss ts = sumTo (λ i. getD ts i noRunning .d - getD ss i noRunning .d) n
 
 -- group x after its D lines: the remainder, and the members' shares
-unfoldable pub rest : Hour → List InternalSequence → ℕ → List Running → List Running → Cells → Outcome Progress
+unfoldable pub rest : Hour → List InternalSequence → InternalSequence → List Running → List Running → Cells → Outcome Progress
 rest h ns x ss ts cell =
-    andThen (remainder (record { 0 = x }) (h .nsources) (scheduled h ns x (h .ndeliveries)) (tookAll (h .nsources) ss ts) ts) λ us.
+    andThen (remainder x (h .nsources) (scheduled h ns x (h .ndeliveries)) (tookAll (h .nsources) ss ts) ts) λ us.
     accepted (record { states = us; cells = shared h ns x ss ts us cell })
 
 -- one group; a number that no delivery has makes none
-unfoldable pub group : Hour → List InternalSequence → ℕ → Progress → Outcome Progress
+unfoldable pub group : Hour → List InternalSequence → InternalSequence → Progress → Outcome Progress
 group h ns x p =
     if eqb (counted ns x (h .ndeliveries)) 0 then accepted p else
     rest h ns x (p .states) (groupLines (member ns x) (h .directs) (p .states) (h .ndirects)) (p .cells)
 
--- "Groups go by descending number": after the numbers 999, 998, .., 1000 - k
+-- the numbers from 999 down; no delivery has a higher one (balance/NumbersBelow1000)
+abbrev pub descending : ℕ → InternalSequence
+descending k = record { 0 = 999 - k }
+
+-- "Groups go by descending number": after the first k numbers
 unfoldable pub groups : Hour → List InternalSequence → ℕ → Outcome Progress
 groups h ns zero = accepted (record { states = map (λ s. opened (s .plant)) (h .sources); cells = λ j i item. pos 0 })
-groups h ns (suc k) = andThen (groups h ns k) (group h ns (999 - k))
+groups h ns (suc k) = andThen (groups h ns k) (group h ns (descending k))
 
 -- all groups; the first that meets 12 or 13 decides
 unfoldable pub reconstructed : Hour → Outcome Progress

@@ -5,10 +5,10 @@ use mathlib.Core.Option.{Option, none, some}
 use Prim.Native.Nat.{ℕ, zero, suc, _+_}
 use lib.Dec.{leb, ltb, eqb}
 use lib.ListN.{length}
-use Rattle.rules.specs.Words.{if_then_else_, sumTo, allTo, findTo}
+use Rattle.rules.specs.Words.{if_then_else_, sumTo, allTo, anyTo, isNone, findTo}
 use Rattle.rules.specs.Refusals.{Outcome, accepted, refused, refuse, andThen}
 use Rattle.rules.specs.Units.{generation, isUnit, levelled}
-use Rattle.rules.specs.Sequences.{toPlace}
+use Rattle.rules.specs.Sequences.{numbered}
 use Rattle.rules.specs.Fields.{Field, got, malformed, Chars}
 use Rattle.rules.specs.Lines.{Letter, H, U, P, F, T, D, E, Fields, fieldsOf, ranged, Line, lineAt}
 use Rattle.rules.specs.Record.{sameLabel, labelOf, sourceAt, deliveryAt, directAt, started, withSource, withDelivery, withDirect, unitOf, purchaseOf, fixedOf, deliveryOf}
@@ -31,7 +31,7 @@ lineNumber h = h .nsources + h .ndeliveries + h .ndirects + 2
 
 -- "label already used in its class" (5)
 abbrev pub sourceUsed : Hour → Label → Bool
-sourceUsed h x = not (allTo (λ i. not (sameLabel (sourceAt h i .label) x)) (h .nsources))
+sourceUsed h x = anyTo (λ i. sameLabel (sourceAt h i .label) x) (h .nsources)
 
 -- a source line, whose numbers are in range or not: 2 to 6 in their order
 abbrev pub sourceTaken : Hour → Bool → Source → Outcome Hour
@@ -46,7 +46,7 @@ sourceTaken h inRange x =
 -- T lines.
 
 abbrev pub deliveryUsed : Hour → Label → Bool
-deliveryUsed h x = not (allTo (λ i. not (sameLabel (deliveryAt h i .label) x)) (h .ndeliveries))
+deliveryUsed h x = anyTo (λ i. sameLabel (deliveryAt h i .label) x) (h .ndeliveries)
 
 -- 2 to 5 in their order
 abbrev pub deliveryTaken : Hour → Bool → Delivery → Outcome Hour
@@ -153,24 +153,20 @@ generated h = sumTo (λ i. generation (sourceAt h i .plant)) (h .nsources)
 abbrev pub delivered : Hour → ℕ
 delivered h = sumTo (λ i. deliveryAt h i .mwh) (h .ndeliveries)
 
--- the first delivery with sequence 0, and the first with another
+-- the first delivery that gets no internal number
 abbrev pub unplaced : Hour → Option ℕ
-unplaced h = findTo (λ i. toPlace (deliveryAt h i)) (h .ndeliveries)
-
-abbrev pub placer : Hour → Option ℕ
-placer h = findTo (λ i. not (toPlace (deliveryAt h i))) (h .ndeliveries)
+unplaced h = findTo (λ i. isNone (numbered (h .deliveries) (h .ndeliveries) (deliveryAt h i))) (h .ndeliveries)
 
 -- "sequence 0 and no delivery to place it by": "first such T line" (11)
-abbrev pub needsPlacer : Hour → Option ℕ → Option ℕ → Outcome Hour
-needsPlacer h none p = accepted h
-needsPlacer h (some i) none = refused (Unplaced (h .nsources + 2 + i))
-needsPlacer h (some i) (some j) = accepted h
+abbrev pub allPlaced : Hour → Option ℕ → Outcome Hour
+allPlaced h none = accepted h
+allPlaced h (some i) = refused (Unplaced (h .nsources + 2 + i))
 
 -- "losses + deliveries above generation" (10), then 11
 unfoldable pub finished : Hour → Outcome Hour
 finished h =
     refuse (ltb (generated h) (h .losses + delivered h)) Overdrawn
-    (needsPlacer h (unplaced h) (placer h))
+    (allPlaced h (unplaced h))
 
 -- The whole deck.
 
@@ -199,7 +195,8 @@ unfoldable pub linesFrom : ℕ → List ℕ → Hour → ℕ → Outcome Hour
 linesFrom zero s h at = refused (Form (lineNumber h))
 linesFrom (suc f) s h at = onLine (lineAt s at) (Form (lineNumber h)) (turn s h (linesFrom f s))
 
--- "Reading: 1, then the first faulty line, within it the least of 2..9, then 10, 11." A deck has no more lines than bytes.
+-- "Reading: 1, then the first faulty line, within it the least of 2..9, then 10, 11."
+-- A line has a byte at least, so that so many turns suffice (roundtrip/Loop).
 unfoldable pub reading : List ℕ → Outcome Hour
 reading s =
     refuse (ltb 8192 (length s)) TooLong

@@ -11,10 +11,11 @@ use Rattle.rules.specs.Fields.{digits, escape, Chars}
 use Rattle.rules.specs.Record.{chars, sourceAt, deliveryAt}
 use Rattle.rules.specs.Reading.{generated, delivered, reading}
 use Rattle.rules.specs.declared.Hour.{Hour}
+use Rattle.rules.specs.declared.InternalSequence.{InternalSequence}
 
 pub data ReportLine : Type 0 where
   hour : (generation losses deliveries load : ℕ) → ReportLine
-  pair : (delivery : Chars) (number : ℕ) (source : Chars) (direct incremental cost : ℤ) → ReportLine
+  pair : (delivery : Chars) (number : InternalSequence) (source : Chars) (direct incremental cost : ℤ) → ReportLine
   internal : (source : Chars) (mwh cost : ℕ) → ReportLine
   end : ReportLine
   refusal : (number place : ℕ) → ReportLine
@@ -65,7 +66,7 @@ x ␣ y = x ++ (32 ∷ y)
 unfoldable pub reportText : ReportLine → List ℕ
 reportText (hour generation losses deliveries load) = text "hour" ␣ digits generation ␣ digits losses ␣ digits deliveries ␣ digits load
 reportText (pair delivery number source direct incremental cost) =
-    labelText delivery ␣ digits number ␣ labelText source ␣ signedText direct ␣ signedText incremental ␣ signedText cost
+    labelText delivery ␣ digits (number .0) ␣ labelText source ␣ signedText direct ␣ signedText incremental ␣ signedText cost
 reportText (internal source mwh cost) = text "internal" ␣ labelText source ␣ digits mwh ␣ digits cost
 reportText end = text "end"
 reportText (refusal number place) = text "refused" ␣ digits number ␣ digits place

@@ -26,6 +26,10 @@ timesTen s = record { 0 = 10 * (s .0) }
 abbrev pub toPlace : Delivery → Bool
 toPlace t = eqb (t .sequence .0) 0
 
+-- "equal internal numbers"
+abbrev pub sameNumber : InternalSequence → InternalSequence → Bool
+sameNumber x y = eqb (x .0) (y .0)
+
 -- the lesser, or greater, of two internal numbers, where there are any
 abbrev pub joined : (ℕ → ℕ → ℕ) → Option InternalSequence → Option InternalSequence → Option InternalSequence
 joined f none y = y
@@ -78,6 +82,6 @@ ruleE ts n = before (matches min (λ o. true) ts n)
 unfoldable pub placed : List Delivery → ℕ → Delivery → Option InternalSequence
 placed ts n t = ruleA ts n t otherwise ruleB ts n t otherwise ruleC ts n t otherwise ruleD ts n t otherwise ruleE ts n
 
--- a delivery's internal number; one "with sequence 0 and no delivery to place it by" has none
+-- a delivery's internal number; "sequence 0 and no delivery to place it by" has none (11)
 unfoldable pub numbered : List Delivery → ℕ → Delivery → Option InternalSequence
 numbered ts n t = if toPlace t then placed ts n t else some (timesTen (t .sequence))

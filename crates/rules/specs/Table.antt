@@ -1,23 +1,22 @@
 -- Document 01, "Hours to try": the cases marked *, the printed hour and further cases, by one statement over one table.
 use mathlib.Core.Bool.{Bool, true, false, not, _&&_}
 use mathlib.Core.List.{List, [], _∷_, _++_}
-use mathlib.Core.Option.{Option, none, some}
 use mathlib.Core.Path.{_≡_, refl}
 use Prim.Native.Nat.{ℕ, _+_, _-_}
 use Prim.Native.String.{String}
 use lib.Dec.{eqb}
 use lib.ListN.{length, replicate, set}
 use lib.IntN.{ℤ, pos, negsuc, negℤ}
-use Rattle.rules.specs.Words.{sumTo, listTo, allTo, findTo, sameList, text}
+use Rattle.rules.specs.Words.{sumTo, listTo, allTo, anyTo, isNone, findTo, sameList, text}
 use Rattle.rules.specs.Refusals.{Outcome, accepted, refused, numberOf, placeOf, andThen}
 use Rattle.rules.specs.Units.{curveCost, cost, curveMade, costAsked}
 use Rattle.rules.specs.Sequences.{noLabel, matches, ruleA, ruleB, ruleC, ruleD, ruleE, placed, numbered}
-use Rattle.rules.specs.Group.{changed, directed, groupLine, groupLines, room, better, next, move, plain, headroom, toEmergency, unload, credit, remainder, upTo}
+use Rattle.rules.specs.Group.{changed, directed, groupLine, groupLines, room, unitRoom, better, next, move, plain, headroom, toEmergency, unload, credit, remainder, upTo}
 use Rattle.rules.specs.Hour.{orNone, numbers, share, shared, rest, group, groups, reconstructed, cellsOf, answer}
 use Rattle.rules.specs.Fields.{byteAt, run, numberAt, digitsIn, digits, escape, unescape, closing, labelEnd, allCharacters, isLabel, spacedNumber, spacedLabel, basisAt, spacedBasis}
 use Rattle.rules.specs.Lines.{fieldsAt, seen, written, ranged, labelled, letterOf, placesAt, lineAt, lineText}
 use Rattle.rules.specs.Record.{sameLabel, labelOf, started, body}
-use Rattle.rules.specs.Reading.{taken, feed, headed, finished, linesFrom, reading}
+use Rattle.rules.specs.Reading.{taken, feed, headed, finished, onLine, linesFrom, reading}
 use Rattle.rules.specs.Writing.{texts, deckText, sameBy, sameHour, allLabelled, given, valid}
 use Rattle.rules.specs.Calls.{writing, reconstruction, leaves, sourcePart, deliveryPart}
 use Rattle.rules.specs.Report.{hourLines, reportLines, reportText, reportTexts, report}
@@ -27,6 +26,7 @@ use Rattle.rules.specs.declared.Plant.the-variants.{Unit, Fixed}
 use Rattle.rules.specs.declared.Basis.the-variants.{Low}
 use Rattle.rules.specs.declared.Delivery.{Delivery}
 use Rattle.rules.specs.declared.Hour.{Hour}
+use Rattle.rules.specs.declared.Refusal.the-variants.{Form}
 
 -- the bytes of a deck's or a report's lines
 abbrev lines : List String → List ℕ
@@ -49,6 +49,7 @@ pub data Case : Type 0 where
   gives : (deck : List ℕ) → (cells : List ℤ) → Case
   prints : (deck report : List ℕ) → Case
   refuses : (deck : List ℕ) → (number place : ℕ) → Case
+  overfull : (deck : List ℕ) → (Hour → Hour) → (line : List ℕ) → (number place : ℕ) → Case  -- a deck's hour with a class filled to 32 entries, and a line more
   ungiven : (deck : List ℕ) → (Hour → Hour) → Case  -- a deck's hour so changed that no deck gives it: 15, before 14
   leavesCells : (deck : List ℕ) → (buffer after : List ℤ) → Case
   leavesBytes : (deck buffer after : List ℕ) → Case
@@ -74,10 +75,6 @@ isRefused : {A : Type 0} → ℕ → ℕ → Outcome A → Bool
 isRefused number place (accepted a) = false
 isRefused number place (refused r) = eqb (numberOf r) number && eqb (placeOf r) place
 
-isNone : Option ℕ → Bool
-isNone none = true
-isNone (some z) = false
-
 -- a deck that is read is written back, and its hour is one that some deck gives
 writesBack : List ℕ → Outcome Hour → Bool
 writesBack s (accepted h) = sameList (deckText h) s && valid h
@@ -93,6 +90,7 @@ right (unlabelled a) = isNone (labelEnd (text a))
 right (gives s xs) = accepts (sameCells xs) (andThen (reading s) answer)
 right (prints s t) = sameList (report s) t && writesBack s (reading s)
 right (refuses s number place) = isRefused number place (andThen (reading s) answer) && sameList (report s) (text "refused " ++ (digits number ++ (32 ∷ digits place ++ (10 ∷ []))))
+right (overfull s fill l number place) = accepts (λ h. isRefused number place (onLine (lineAt l 0) (Form 0) λ x next. taken (fill h) x)) (reading s)
 right (ungiven s change) = accepts (λ h. isRefused 15 0 (reconstruction (change h) 0) && isRefused 15 0 (writing (change h) 0)) (reading s)
 right (leavesCells s buffer after) = accepts (λ h. sameCells (leaves (reconstruction h (length buffer)) buffer) after) (reading s)
 right (leavesBytes s buffer after) = accepts (λ h. sameList (leaves (writing h (length buffer)) buffer) after) (reading s)
@@ -136,6 +134,31 @@ creditOf t = lines ("H 10" ∷ u1Line ∷ p1Line ∷ t ∷ "D 30 100 \"U1\" \"X\
 -- n sources with one label each
 manySources : ℕ → List ℕ
 manySources n = text "H 0\n" ++ (listTo (λ i. text "F 1 \"" ++ ((35 + i) ∷ 34 ∷ 10 ∷ [])) n ++ text "E\n")
+
+-- with 32 T lines or D lines: reading so many would take the checker beyond its steps
+manyDeliveries : Hour → Hour
+manyDeliveries h =
+    record {
+      losses = h .losses;
+      nsources = h .nsources;
+      ndeliveries = 32;
+      ndirects = h .ndirects;
+      sources = h .sources;
+      deliveries = h .deliveries;
+      directs = h .directs;
+    }
+
+manyDirects : Hour → Hour
+manyDirects h =
+    record {
+      losses = h .losses;
+      nsources = h .nsources;
+      ndeliveries = h .ndeliveries;
+      ndirects = 32;
+      sources = h .sources;
+      deliveries = h .deliveries;
+      directs = h .directs;
+    }
 
 losing : ℕ → Hour → Hour
 losing l h =
@@ -215,6 +238,12 @@ table =
     "internal \"P1\" 15 2850000000" ∷
     "end" ∷ [])) ∷
     prints (lines ("H 0" ∷ "E" ∷ [])) (lines ("hour 0 0 0 0" ∷ "end" ∷ [])) ∷
+    -- Sequence numbers: a) and d) where another rule would say otherwise; b) looks at the next block alone, not round to 1, and c) not round to 9
+    places (delivery 30 1 2 ∷ delivery 20 1 3 ∷ []) (delivery 0 1 2) 299 ∷
+    places (delivery 30 1 4 ∷ delivery 5 2 1 ∷ []) (delivery 0 1 1) 299 ∷
+    places (delivery 30 1 5 ∷ delivery 5 1 1 ∷ []) (delivery 0 1 3) 49 ∷
+    places (delivery 30 1 1 ∷ delivery 5 1 3 ∷ []) (delivery 0 1 9) 49 ∷
+    places (delivery 30 1 9 ∷ delivery 5 1 3 ∷ []) (delivery 0 1 1) 49 ∷
     -- Units: W below k is rounded down; a coefficient or a level outside its range.
     costs (Unit (record { g = 9; h = 9; n = 9; o = 9; e = 9; curve = curve 3 1 1 1 1 })) 1 5 ∷
     outside (curve 0 0 0 0 0) 0 ∷
@@ -250,6 +279,7 @@ table =
     refuses (text "H 0" ++ (13 ∷ 10 ∷ lines ("E" ∷ []))) 2 1 ∷
     -- 3, and 2 before it
     refuses (lines ("H 64001" ∷ "E" ∷ [])) 3 1 ∷
+    refuses (lines ("H 18446744073709551616" ∷ "E" ∷ [])) 3 1 ∷
     refuses (deck ("P 123456789012345678901234567890 95000 \"P1\"" ∷ [])) 3 2 ∷
     refuses (deck ("P 2001 95000 \"P1" ∷ [])) 2 2 ∷
     refuses (deck ("F 1 \"A\"" ∷ "P 2001 5 \"A\"" ∷ [])) 3 3 ∷
@@ -262,6 +292,8 @@ table =
     refuses (deck ("F 1 \"A\"" ∷ "U 100 99 40 30 20 20 50000 9000 10 10000 \"A\"" ∷ [])) 5 3 ∷
     refuses (deck (u1Line ∷ "T 30 1 1 6 \"X\"" ∷ "T 30 1 1 6 \"X\"" ∷ [])) 5 4 ∷
     prints (deck ("F 9 \"A\"" ∷ "F 9 \"A \"" ∷ "F 9 \" A\"" ∷ "F 9 \"a\"" ∷ "F 9 \" \"" ∷ [])) (lines ("hour 45 0 0 45" ∷ "internal \"A\" 9 0" ∷ "internal \"A \" 9 0" ∷ "internal \" A\" 9 0" ∷ "internal \"a\" 9 0" ∷ "internal \" \" 9 0" ∷ "end" ∷ [])) ∷
+    -- a source and a delivery may share a label, and labels differ in their ninth character too
+    prints (deck ("F 1 \"ABCDEFGH2\"" ∷ "T 1 1 1 0 \"ABCDEFGH1\"" ∷ "T 1 1 1 0 \"ABCDEFGH2\"" ∷ [])) (lines ("hour 1 0 0 1" ∷ "\"ABCDEFGH1\" 10 \"ABCDEFGH2\" 0 0 0" ∷ "\"ABCDEFGH2\" 10 \"ABCDEFGH2\" 0 0 0" ∷ "internal \"ABCDEFGH2\" 1 0" ∷ "end" ∷ [])) ∷
     -- 6: g = n - 1; g = n passes
     refuses (deck ("U 39 120 40 30 20 20 50000 9000 10 10000 \"U1\"" ∷ [])) 6 2 ∷
     prints (deck ("U 40 120 40 30 20 20 50000 9000 10 10000 \"U1\"" ∷ [])) (lines ("hour 40 0 0 40" ∷ "internal \"U1\" 40 8360000000" ∷ "end" ∷ [])) ∷
@@ -270,17 +302,25 @@ table =
     refuses (deck ("F 100 \"A\"" ∷ xLine ∷ "D L 50 \"A\" \"X\"" ∷ [])) 7 4 ∷
     refuses (deck ("P 100 5 \"A\"" ∷ xLine ∷ "D 5 50 \"A\" \"X\"" ∷ [])) 7 4 ∷
     refuses (deck (u1Line ∷ xLine ∷ "D L 50 \"U1\" \"X \"" ∷ [])) 7 4 ∷
+    -- 7 before 8
+    refuses (deck (u1Line ∷ "D 120 1 \"U1\" \"X\"" ∷ [])) 7 3 ∷
     -- 8: another basis, a number not below h; `G` with g = h passes
     refuses (deck (u1Line ∷ xLine ∷ "D L 50 \"U1\" \"X\"" ∷ "D 40 50 \"U1\" \"X\"" ∷ [])) 8 5 ∷
     refuses (deck (u1Line ∷ xLine ∷ "D 120 50 \"U1\" \"X\"" ∷ [])) 8 4 ∷
     prints (deck ("U 9 9 4 3 2 2 5 9 1 10 \"U1\"" ∷ "T 30 1 1 4 \"X\"" ∷ "D G 50 \"U1\" \"X\"" ∷ [])) (lines ("hour 9 0 4 5" ∷ "\"X\" 300 \"U1\" 4 0 1124" ∷ "internal \"U1\" 5 1406" ∷ "end" ∷ [])) ∷
+    -- 8 before 9
+    refuses (deck (u1Line ∷ xLine ∷ "D L 1 \"U1\" \"X\"" ∷ "D 40 100 \"U1\" \"X\"" ∷ [])) 8 5 ∷
     -- 9: percents 60 and 41; 60 and 40 pass
     refuses (deck (u1Line ∷ xLine ∷ "D G 60 \"U1\" \"X\"" ∷ "D G 41 \"U1\" \"X\"" ∷ [])) 9 5 ∷
     refuses (deck (u1Line ∷ xLine ∷ "D G 60 \"U1\" \"X\"" ∷ "D G 40 \"U1\" \"X\"" ∷ [])) 13 300 ∷
+    -- all of a unit's D lines count, whatever deliveries they name
+    refuses (deck (u1Line ∷ xLine ∷ "T 1 1 1 1 \"Y\"" ∷ "D L 30 \"U1\" \"Y\"" ∷ "D L 30 \"U1\" \"X\"" ∷ "D L 41 \"U1\" \"Y\"" ∷ [])) 9 7 ∷
     -- 10, and equality passes; before 11
     refuses (lines ("H 41" ∷ u1Line ∷ xLine ∷ "E" ∷ [])) 10 0 ∷
     prints (lines ("H 40" ∷ u1Line ∷ xLine ∷ "E" ∷ [])) (lines ("hour 100 40 60 0" ∷ "\"X\" 300 \"U1\" 0 60 11640000000" ∷ "internal \"U1\" 40 8360000000" ∷ "end" ∷ [])) ∷
     refuses (lines ("H 41" ∷ u1Line ∷ "T 0 1 1 60 \"X\"" ∷ "E" ∷ [])) 10 0 ∷
+    -- F is generation
+    refuses (deck ("F 1 \"A\"" ∷ "T 1 1 1 1 \"X\"" ∷ [])) 12 10 ∷
     -- 11
     refuses (deck (u1Line ∷ "T 0 1 1 30 \"X\"" ∷ "T 0 2 2 30 \"Y\"" ∷ [])) 11 3 ∷
     -- labels with quotes and backslashes, and sixteen of them
@@ -288,6 +328,10 @@ table =
     -- 4, before 5: a thirty-third source; thirty-two pass
     refuses (manySources 33) 4 34 ∷
     leavesBytes (manySources 32) [] [] ∷
+    -- a thirty-third delivery, its label used, and one out of range: 3 before it; a thirty-third D line
+    overfull sixCells manyDeliveries (text "T 1 1 1 0 \"X\"\n") 4 35 ∷
+    overfull sixCells manyDeliveries (text "T 100 1 1 0 \"Y\"\n") 3 35 ∷
+    overfull (deck ("U 1 1 1 1 1 1 0 0 0 0 \"U\"" ∷ "T 1 1 1 0 \"X\"" ∷ "D L 1 \"U\" \"X\"" ∷ [])) manyDirects (text "D L 1 \"U\" \"X\"\n") 4 36 ∷
     -- One group.
     -- a tie of top MWh takes the earlier source
     prints (deck ("P 4 0 \"S0\"" ∷ "P 10 0 \"S1\"" ∷ "T 3 2 1 1 \"T0\"" ∷ [])) (lines ("hour 14 0 1 13" ∷ "\"T0\" 30 \"S0\" 0 1 0" ∷ "\"T0\" 30 \"S1\" 0 0 0" ∷ "internal \"S0\" 3 0" ∷ "internal \"S1\" 10 0" ∷ "end" ∷ [])) ∷
@@ -298,6 +342,8 @@ table =
     prints (deck ("U 7 9 7 5 5 5 4 2 2 2 \"S0\"" ∷ "T 3 2 3 7 \"T0\"" ∷ [])) (lines ("hour 7 0 7 0" ∷ "\"T0\" 30 \"S0\" 0 7 268" ∷ "internal \"S0\" 0 0" ∷ "end" ∷ [])) ∷
     -- oil lows come before emergency lows, and equality suffices there
     prints (deck ("U 21 22 13 11 7 4 0 1 0 1 \"S0\"" ∷ "P 19 0 \"S1\"" ∷ "T 1 2 2 29 \"T0\"" ∷ [])) (lines ("hour 40 0 29 11" ∷ "\"T0\" 10 \"S0\" 0 10 20" ∷ "\"T0\" 10 \"S1\" 0 19 0" ∷ "internal \"S0\" 11 22" ∷ "internal \"S1\" 0 0" ∷ "end" ∷ [])) ∷
+    -- emergency lows come before the last step
+    prints (deck ("U 10 10 8 6 2 1 0 1 0 1 \"A\"" ∷ "U 10 10 8 6 2 1 0 2 0 1 \"B\"" ∷ "T 1 1 1 9 \"X\"" ∷ [])) (lines ("hour 20 0 9 11" ∷ "\"X\" 10 \"A\" 0 1 2" ∷ "\"X\" 10 \"B\" 0 8 32" ∷ "internal \"A\" 9 18" ∷ "internal \"B\" 2 8" ∷ "end" ∷ [])) ∷
     -- each group begins again at normal lows
     prints (deck ("P 2 0 \"S0\"" ∷ "U 18 18 18 11 6 1 50 9 1 2000 \"S1\"" ∷ "T 1 2 1 1 \"T0\"" ∷ "T 2 1 2 3 \"T1\"" ∷ [])) (lines ("hour 20 0 4 16" ∷ "\"T0\" 10 \"S0\" 0 1 0" ∷ "\"T0\" 10 \"S1\" 0 0 0" ∷ "\"T1\" 20 \"S0\" 0 0 0" ∷ "\"T1\" 20 \"S1\" 0 3 306000" ∷ "internal \"S0\" 1 0" ∷ "internal \"S1\" 15 1190000" ∷ "end" ∷ [])) ∷
     -- the last step: all to their emergency floors first, then by falling average at the normal low, a tie to the earlier
@@ -305,20 +351,30 @@ table =
     prints (deck ("U 8 12 8 8 2 2 32 1 0 2000 \"S0\"" ∷ "U 8 11 7 7 4 3 7 0 0 1 \"S1\"" ∷ "T 1 1 2 11 \"T0\"" ∷ [])) (lines ("hour 16 0 11 5" ∷ "\"T0\" 10 \"S0\" 0 7 92000" ∷ "\"T0\" 10 \"S1\" 0 4 0" ∷ "internal \"S0\" 1 68000" ∷ "internal \"S1\" 4 14" ∷ "end" ∷ [])) ∷
     prints (deck ("U 8 21 5 5 5 2 5 3 0 3 \"S0\"" ∷ "U 8 21 5 5 5 2 5 3 0 3 \"S1\"" ∷ "T 50 1 2 9 \"T0\"" ∷ [])) (lines ("hour 16 0 9 7" ∷ "\"T0\" 500 \"S0\" 0 6 108" ∷ "\"T0\" 500 \"S1\" 0 3 54" ∷ "internal \"S0\" 2 66" ∷ "internal \"S1\" 5 120" ∷ "end" ∷ [])) ∷
     prints (lines ("H 1" ∷ "U 8 12 7 5 4 3 4 6 2 2000 \"S0\"" ∷ "U 11 11 6 4 3 2 21 4 1 2000 \"S1\"" ∷ "T 1 1 1 14 \"T0\"" ∷ "E" ∷ [])) (lines ("hour 19 1 14 4" ∷ "\"T0\" 10 \"S0\" 0 6 381334" ∷ "\"T0\" 10 \"S1\" 0 8 352000" ∷ "internal \"S0\" 2 82666" ∷ "internal \"S1\" 3 150000" ∷ "end" ∷ [])) ∷
+    -- averages are compared as fractions: 2/3 is more than 0
+    prints (deck ("U 13 13 1 1 1 1 0 0 0 0 \"S0\"" ∷ "U 20 20 3 1 1 1 1 0 0 1 \"S1\"" ∷ "T 1 1 1 32 \"T0\"" ∷ [])) (lines ("hour 33 0 32 1" ∷ "\"T0\" 10 \"S0\" 0 12 0" ∷ "\"T0\" 10 \"S1\" 0 20 2" ∷ "internal \"S0\" 1 0" ∷ "internal \"S1\" 0 0" ∷ "end" ∷ [])) ∷
     -- b is the lesser of v and the basis, set once, and holds every floor
     prints (lines ("H 1" ∷ "U 15 24 9 8 7 6 0 1 1 3 \"S0\"" ∷ "T 3 2 1 6 \"T0\"" ∷ "D 18 100 \"S0\" \"T0\"" ∷ "E" ∷ [])) (lines ("hour 15 1 6 8" ∷ "\"T0\" 30 \"S0\" 15 -9 -342" ∷ "internal \"S0\" 9 1107" ∷ "end" ∷ [])) ∷
     prints (deck ("U 8 16 6 4 2 1 4 2 2 3 \"S0\"" ∷ "T 2 1 4 1 \"T0\"" ∷ "T 0 1 2 5 \"T1\"" ∷ "D G 13 \"S0\" \"T0\"" ∷ "D G 87 \"S0\" \"T1\"" ∷ [])) (lines ("hour 8 0 6 2" ∷ "\"T0\" 20 \"S0\" 1 0 63" ∷ "\"T1\" 19 \"S0\" 7 -2 201" ∷ "internal \"S0\" 2 240" ∷ "end" ∷ [])) ∷
     prints (deck ("U 15 16 8 7 6 6 2 0 2 2000 \"S0\"" ∷ "P 15 25 \"S1\"" ∷ "T 3 2 3 18 \"T0\"" ∷ "D G 23 \"S0\" \"T0\"" ∷ [])) (lines ("hour 30 0 18 12" ∷ "\"T0\" 30 \"S0\" 3 0 181600" ∷ "\"T0\" 30 \"S1\" 0 15 750000" ∷ "internal \"S0\" 12 726400" ∷ "internal \"S1\" 0 0" ∷ "end" ∷ [])) ∷
+    -- emergency floors that b holds, after a credit; `G` is g, where v is above it
+    prints (deck ("U 10 11 3 3 1 1 0 0 0 0 \"S0\"" ∷ "U 17 29 1 1 1 1 0 1 0 1 \"S1\"" ∷ "U 1 5 1 1 1 1 0 0 1 1 \"S2\"" ∷ "T 1 1 1 0 \"T0\"" ∷ "T 0 1 1 24 \"T1\"" ∷ "D G 100 \"S1\" \"T0\"" ∷ "D 2 1 \"S2\" \"T1\"" ∷ [])) (lines ("hour 28 0 24 4" ∷ "\"T0\" 10 \"S0\" 0 -1 0" ∷ "\"T0\" 10 \"S1\" 17 -12 10" ∷ "\"T0\" 10 \"S2\" 0 -4 -24" ∷ "\"T1\" 9 \"S0\" 0 9 0" ∷ "\"T1\" 9 \"S1\" 0 12 24" ∷ "\"T1\" 9 \"S2\" 0 3 21" ∷ "internal \"S0\" 2 0" ∷ "internal \"S1\" 0 0" ∷ "internal \"S2\" 2 4" ∷ "end" ∷ [])) ∷
+    prints (deck ("U 18 18 1 1 1 1 0 0 0 0 \"S0\"" ∷ "U 11 12 1 1 1 1 0 0 0 0 \"S1\"" ∷ "T 1 1 1 0 \"T0\"" ∷ "T 0 1 1 24 \"T1\"" ∷ "D L 100 \"S0\" \"T0\"" ∷ "D G 55 \"S1\" \"T1\"" ∷ [])) (lines ("hour 29 0 24 5" ∷ "\"T0\" 10 \"S0\" 1 0 0" ∷ "\"T0\" 10 \"S1\" 0 -1 0" ∷ "\"T1\" 9 \"S0\" 0 17 0" ∷ "\"T1\" 9 \"S1\" 6 1 0" ∷ "internal \"S0\" 0 0" ∷ "internal \"S1\" 5 0" ∷ "end" ∷ [])) ∷
     -- D follows the percent total
     prints (lines ("H 1" ∷ "U 8 9 8 5 2 1 0 0 1 2 \"S0\"" ∷ "T 1 2 3 6 \"T0\"" ∷ "D 6 40 \"S0\" \"T0\"" ∷ "D 6 60 \"S0\" \"T0\"" ∷ "E" ∷ [])) (lines ("hour 8 1 6 1" ∷ "\"T0\" 10 \"S0\" 6 0 72" ∷ "internal \"S0\" 2 56" ∷ "end" ∷ [])) ∷
     -- W up to b is replaced
     prints (deck ("U 6 10 5 3 1 1 5 1 0 2 \"S0\"" ∷ "T 1 1 3 2 \"T0\"" ∷ "D G 39 \"S0\" \"T0\"" ∷ [])) (lines ("hour 6 0 2 4" ∷ "\"T0\" 10 \"S0\" 2 0 14" ∷ "internal \"S0\" 4 30" ∷ "end" ∷ [])) ∷
     -- a unit below e is not raised
     prints (lines ("H 1" ∷ "P 4 19 \"S0\"" ∷ "U 9 10 9 7 7 7 0 0 0 1 \"S1\"" ∷ "T 1 2 3 0 \"T0\"" ∷ "T 2 2 2 9 \"T1\"" ∷ "D 8 49 \"S1\" \"T0\"" ∷ "E" ∷ [])) (lines ("hour 13 1 9 3" ∷ "\"T0\" 10 \"S0\" 0 -1 -38000" ∷ "\"T0\" 10 \"S1\" 1 0 0" ∷ "\"T1\" 20 \"S0\" 0 4 152000" ∷ "\"T1\" 20 \"S1\" 0 5 0" ∷ "internal \"S0\" 1 38000" ∷ "internal \"S1\" 3 0" ∷ "end" ∷ [])) ∷
+    -- after a last step a unit below e stays, and those at e rise, the cheapest next MWh first
+    prints (deck ("U 11 11 2 2 2 1 1 3 0 12 \"S0\"" ∷ "U 19 19 17 16 16 1 0 4 0 10 \"S1\"" ∷ "U 19 19 4 3 3 1 0 0 1 8 \"S2\"" ∷ "T 1 1 1 29 \"T0\"" ∷ "T 0 1 1 0 \"T1\"" ∷ "D G 100 \"S2\" \"T1\"" ∷ [])) (lines ("hour 49 0 29 20" ∷ "\"T0\" 10 \"S0\" 0 10 720" ∷ "\"T0\" 10 \"S1\" 0 3 240" ∷ "\"T0\" 10 \"S2\" 0 16 2816" ∷ "\"T1\" 9 \"S0\" 0 0 0" ∷ "\"T1\" 9 \"S1\" 0 -1 -80" ∷ "\"T1\" 9 \"S2\" 3 -2 -56" ∷ "internal \"S0\" 1 96" ∷ "internal \"S1\" 17 1360" ∷ "internal \"S2\" 2 128" ∷ "end" ∷ [])) ∷
     -- shares are increases of a running part; a group of total 0; the direct MWh are the group's
     prints (deck ("U 10 11 8 4 4 1 2 0 0 7 \"S0\"" ∷ "T 1 1 3 6 \"T0\"" ∷ "T 1 1 2 4 \"T1\"" ∷ [])) (lines ("hour 10 0 10 0" ∷ "\"T0\" 10 \"S0\" 0 6 16" ∷ "\"T1\" 10 \"S0\" 0 4 12" ∷ "internal \"S0\" 0 0" ∷ "end" ∷ [])) ∷
     prints (lines ("H 2" ∷ "U 23 24 22 9 9 5 9 0 0 0 \"S0\"" ∷ "T 1 2 4 0 \"T0\"" ∷ "D 4 44 \"S0\" \"T0\"" ∷ "E" ∷ [])) (lines ("hour 23 2 0 21" ∷ "\"T0\" 10 \"S0\" 1 -1 0" ∷ "internal \"S0\" 23 0" ∷ "end" ∷ [])) ∷
     prints (deck ("U 11 12 8 6 5 5 0 1 0 1 \"S0\"" ∷ "T 2 1 2 6 \"T0\"" ∷ "T 2 2 4 1 \"T1\"" ∷ "D L 100 \"S0\" \"T1\"" ∷ [])) (lines ("hour 11 0 7 4" ∷ "\"T0\" 20 \"S0\" 6 0 12" ∷ "\"T1\" 20 \"S0\" 2 -1 2" ∷ "internal \"S0\" 4 8" ∷ "end" ∷ [])) ∷
+    -- direct and incremental cost are split apart; two that are placed alike form a group, and of its total 0 the first has all
+    prints (deck ("U 4 4 1 1 1 1 0 1 0 1 \"S0\"" ∷ "T 3 1 1 2 \"T0\"" ∷ "T 3 1 1 1 \"T1\"" ∷ "D 2 22 \"S0\" \"T0\"" ∷ "D 2 28 \"S0\" \"T0\"" ∷ [])) (lines ("hour 4 0 3 1" ∷ "\"T0\" 30 \"S0\" 0 1 3" ∷ "\"T1\" 30 \"S0\" 1 1 3" ∷ "internal \"S0\" 1 2" ∷ "end" ∷ [])) ∷
+    prints (deck ("U 2 2 1 1 1 1 0 0 0 0 \"S0\"" ∷ "T 0 1 1 0 \"T0\"" ∷ "T 1 1 1 1 \"T1\"" ∷ "T 0 1 1 0 \"T2\"" ∷ "D 1 100 \"S0\" \"T2\"" ∷ [])) (lines ("hour 2 0 1 1" ∷ "\"T0\" 9 \"S0\" 1 -1 0" ∷ "\"T1\" 10 \"S0\" 0 1 0" ∷ "\"T2\" 9 \"S0\" 0 0 0" ∷ "internal \"S0\" 1 0" ∷ "end" ∷ [])) ∷
     -- groups descend; a placed delivery places no other; b) before c)
     prints (deck ("U 8 12 7 3 3 2 4 0 0 3 \"S0\"" ∷ "T 3 2 4 6 \"T0\"" ∷ "T 2 2 3 2 \"T1\"" ∷ [])) (lines ("hour 8 0 8 0" ∷ "\"T0\" 30 \"S0\" 0 6 0" ∷ "\"T1\" 20 \"S0\" 0 2 24" ∷ "internal \"S0\" 0 0" ∷ "end" ∷ [])) ∷
     prints (deck ("F 1 \"S0\"" ∷ "T 0 3 9 0 \"T0\"" ∷ "T 0 1 9 0 \"T1\"" ∷ "T 8 2 1 0 \"T2\"" ∷ [])) (lines ("hour 1 0 0 1" ∷ "\"T0\" 79 \"S0\" 0 0 0" ∷ "\"T1\" 79 \"S0\" 0 0 0" ∷ "\"T2\" 80 \"S0\" 0 0 0" ∷ "internal \"S0\" 1 0" ∷ "end" ∷ [])) ∷
@@ -335,7 +391,7 @@ table =
     leavesCells sixCells (pos 7 ∷ pos 7 ∷ pos 7 ∷ pos 7 ∷ pos 7 ∷ []) (pos 7 ∷ pos 7 ∷ pos 7 ∷ pos 7 ∷ pos 7 ∷ []) ∷
     leavesCells sixCells (replicate 6 (pos 7)) (pos 0 ∷ pos 2 ∷ pos 0 ∷ pos 4000 ∷ pos 3 ∷ pos 6000 ∷ []) ∷
     leavesCells sixCells (replicate 7 (pos 7)) (pos 0 ∷ pos 2 ∷ pos 0 ∷ pos 4000 ∷ pos 3 ∷ pos 6000 ∷ pos 7 ∷ []) ∷
-    leavesCells twelve (replicate 10 (pos 7)) (replicate 10 (pos 7)) ∷
+    leavesCells twelve (pos 8 ∷ replicate 9 (pos 7)) (pos 8 ∷ replicate 9 (pos 7)) ∷
     leavesBytes (lines ("H 0" ∷ "E" ∷ [])) (replicate 5 7) (replicate 5 7) ∷
     leavesBytes (lines ("H 0" ∷ "E" ∷ [])) (replicate 7 7) (text "H 0\nE\n" ++ (7 ∷ [])) ∷
     -- a label's own bytes, escapes unread; none where the entry is not there
@@ -344,5 +400,5 @@ table =
     []
 
 pub starred : allRight table ≡ true
-unfolding table allRight right curve u1 u1Line p1Line xLine delivery three printed creditOf manySources losing lastSource lastDirect sixCells twelve accepts isRefused isNone writesBack sameCells sameℤ sumTo listTo allTo findTo sameList curveCost matches ruleA ruleB ruleC ruleD ruleE placed numbered changed directed groupLine groupLines room better next move plain headroom toEmergency unload credit remainder upTo numbers share shared rest group groups reconstructed cellsOf answer byteAt run numberAt digitsIn digits escape unescape closing labelEnd allCharacters isLabel spacedNumber spacedLabel basisAt spacedBasis fieldsAt seen written ranged labelled letterOf placesAt lineAt lineText started body taken feed headed finished linesFrom reading texts deckText sameBy sameHour allLabelled given valid writing reconstruction sourcePart deliveryPart hourLines reportLines reportText reportTexts report
+unfolding table allRight right curve u1 u1Line p1Line xLine delivery three printed creditOf manySources manyDeliveries manyDirects losing lastSource lastDirect sixCells twelve accepts isRefused writesBack sameCells sameℤ sumTo listTo allTo anyTo findTo sameList curveCost matches ruleA ruleB ruleC ruleD ruleE placed numbered changed directed groupLine groupLines room unitRoom better next move plain headroom toEmergency unload credit remainder upTo numbers share shared rest group groups reconstructed cellsOf answer byteAt run numberAt digitsIn digits escape unescape closing labelEnd allCharacters isLabel spacedNumber spacedLabel basisAt spacedBasis fieldsAt seen written ranged labelled letterOf placesAt lineAt lineText started body taken feed headed finished linesFrom reading texts deckText sameBy sameHour allLabelled given valid writing reconstruction sourcePart deliveryPart hourLines reportLines reportText reportTexts report
 starred = refl

@@ -4,7 +4,7 @@ use Prim.Native.Nat.{ℕ, _+_, _-_, _*_, _/_}
 use lib.Dec.{leb}
 use Rattle.rules.specs.Words.{if_then_else_}
 use Rattle.rules.specs.Refusals.{Outcome, accepted, refuse}
-use Rattle.rules.specs.Ranges.{inside, unitLevel, coefficientA, coefficientB, coefficientC, heatRate, energy}
+use Rattle.rules.specs.Ranges.{inside, unitLevel, coefficientA, coefficientB, coefficientC, heatRate, costLevel}
 use Rattle.rules.specs.declared.HeatCurve.{HeatCurve}
 use Rattle.rules.specs.declared.Unit.{Unit}
 use Rattle.rules.specs.declared.Plant.{Plant}
@@ -29,6 +29,10 @@ abbrev pub generation : Plant → ℕ
 generation (U u) = u .g
 generation (P g rate) = g
 generation (F g) = g
+
+-- "The cost of a source's generation is W(g) as it was before any direct allocation replaced it"
+abbrev pub generationCost : Plant → ℕ
+generationCost p = cost p (generation p)
 
 -- "oil point low, normal low", "emergency low"; of P, "its lows are 0"
 abbrev pub normalLow : Plant → ℕ
@@ -75,4 +79,4 @@ abbrev pub curveMade : HeatCurve → Outcome HeatCurve
 curveMade c = refuse (not (curveInside c)) (Range 0) (accepted c)
 
 abbrev pub costAsked : HeatCurve → ℕ → Outcome ℕ
-costAsked c m = refuse (not (curveInside c && inside energy m)) (Range 0) (accepted (curveCost c m))
+costAsked c m = refuse (not (curveInside c && inside costLevel m)) (Range 0) (accepted (curveCost c m))

@@ -1,5 +1,5 @@
 -- Words that the rules are written in: a choice, sums and lists made piece by piece, the first that passes, text.
-use mathlib.Core.Bool.{Bool, true, false, _&&_}
+use mathlib.Core.Bool.{Bool, true, false, _&&_, _||_}
 use mathlib.Core.List.{List, [], _∷_, _++_}
 use mathlib.Core.Option.{Option, none, some}
 use Prim.Native.Char.{code}
@@ -27,11 +27,20 @@ unfoldable pub allTo : (ℕ → Bool) → ℕ → Bool
 allTo p zero = true
 allTo p (suc n) = allTo p n && p n
 
+-- whether any of 0 .. n - 1 passes
+unfoldable pub anyTo : (ℕ → Bool) → ℕ → Bool
+anyTo p zero = false
+anyTo p (suc n) = anyTo p n || p n
+
 -- the first that there is
 infixr 3 _otherwise_
 abbrev pub _otherwise_ : {A : Type 0} → Option A → Option A → Option A
 none otherwise y = y
 some x otherwise y = some x
+
+abbrev pub isNone : {A : Type 0} → Option A → Bool
+isNone none = true
+isNone (some x) = false
 
 -- the first of 0 .. n - 1 that passes
 unfoldable pub findTo : (ℕ → Bool) → ℕ → Option ℕ

@@ -1,24 +1,18 @@
 // The types of document 01: an hour record, a source's running state, and a refusal, with the methods that are asked for by name.
 // The rules over them are in specs/, as definitions that compute; all other code stands in the crates above.
-ghost use mathlib.Core.Bool.{true};
 ghost use mathlib.Core.Path.{_≡_};
-ghost use Prim.Native.Nat.{_+_, _-_, _≤_};
-ghost use Rattle.rules.specs.Units.{curveMade};
+ghost use Prim.Native.Nat.{_+_, _-_, _*_, _/_, _≤_};
+ghost use Rattle.rules.specs.Units.{curveInside, curveMade};
+ghost use Rattle.rules.specs.Group.{changed, basedOn, renewed};
 ghost use Rattle.rules.specs.Answers.{curveAnswer};
 
-// The curve's start k, its coefficients A, B and C in thousandths, and the rate R.
+// The curve's start k, its coefficients A, B and C in thousandths, and the rate R. Its fields are closed: `new` alone makes one.
 pub struct HeatCurve {
-    pub k: u32,
-    pub a: u32,
-    pub b: u32,
-    pub c: u32,
-    pub r: u32,
-}
-
-// A curve that was made, or why not.
-pub enum CurveAnswer {
-    Made(HeatCurve),
-    Refused(Refusal),
+    k: u32,
+    a: u32,
+    b: u32,
+    c: u32,
+    r: u32,
 }
 
 impl HeatCurve {
@@ -34,26 +28,36 @@ impl HeatCurve {
 
     pub const MOST_RATE: u32 = 39_996;
 
+    // Whether coefficients are within these ranges.
+    fn inside(k: u32, a: u32, b: u32, c: u32, r: u32) -> bool
+        ensures { λ x. ⌜ x ≡ curveInside (record { k = k; a = a; b = b; c = c; r = r }) ⌝ }
+    {
+        if k < HeatCurve::LEAST_START {
+            return false;
+        }
+        if HeatCurve::MOST_START < k {
+            return false;
+        }
+        if HeatCurve::MOST_A < a {
+            return false;
+        }
+        if HeatCurve::MOST_B < b {
+            return false;
+        }
+        if HeatCurve::MOST_C < c {
+            return false;
+        }
+        if HeatCurve::MOST_RATE < r {
+            return false;
+        }
+        true
+    }
+
     // A curve only from coefficients within these ranges.
     pub fn new(k: u32, a: u32, b: u32, c: u32, r: u32) -> CurveAnswer
         ensures { λ x. ⌜ x ≡ curveAnswer (curveMade (record { k = k; a = a; b = b; c = c; r = r })) ⌝ }
     {
-        if k < HeatCurve::LEAST_START {
-            return CurveAnswer::Refused(Refusal::Range(0));
-        }
-        if HeatCurve::MOST_START < k {
-            return CurveAnswer::Refused(Refusal::Range(0));
-        }
-        if HeatCurve::MOST_A < a {
-            return CurveAnswer::Refused(Refusal::Range(0));
-        }
-        if HeatCurve::MOST_B < b {
-            return CurveAnswer::Refused(Refusal::Range(0));
-        }
-        if HeatCurve::MOST_C < c {
-            return CurveAnswer::Refused(Refusal::Range(0));
-        }
-        if HeatCurve::MOST_RATE < r {
+        if !HeatCurve::inside(k, a, b, c, r) {
             return CurveAnswer::Refused(Refusal::Range(0));
         }
         CurveAnswer::Made(HeatCurve {
@@ -63,6 +67,43 @@ impl HeatCurve {
             c: c,
             r: r,
         })
+    }
+
+    // The same of a curve at hand, for the test of 15: no contract sees that its fields are closed.
+    pub fn is_inside(self) -> bool
+        ensures { λ x. ⌜ x ≡ curveInside self ⌝ }
+    {
+        HeatCurve::inside(self.k, self.a, self.b, self.c, self.r)
+    }
+
+    pub fn k(self) -> u32
+        ensures { λ x. ⌜ x ≡ self .k ⌝ }
+    {
+        self.k
+    }
+
+    pub fn a(self) -> u32
+        ensures { λ x. ⌜ x ≡ self .a ⌝ }
+    {
+        self.a
+    }
+
+    pub fn b(self) -> u32
+        ensures { λ x. ⌜ x ≡ self .b ⌝ }
+    {
+        self.b
+    }
+
+    pub fn c(self) -> u32
+        ensures { λ x. ⌜ x ≡ self .c ⌝ }
+    {
+        self.c
+    }
+
+    pub fn r(self) -> u32
+        ensures { λ x. ⌜ x ≡ self .r ⌝ }
+    {
+        self.r
     }
 }
 
@@ -145,10 +186,11 @@ pub struct Running {
 }
 
 impl Running {
-    // The state after a direct allocation: mwh taken in all, of the basic amount b, at a percent total and for what was paid in all.
+    // The state after a direct allocation: mwh taken in all, the percent total's part of the basic amount b, for what was paid in all.
     pub fn with_direct(self, mwh: u32, b: u32, percent: u32, paid: u64) -> Running
-        requires { ⌜ (self .d ≤ mwh) × (mwh ≤ self .v + self .d) ⌝ }
-        ensures { λ r. ⌜ r ≡ record { plant = self .plant; v = self .v - (mwh - self .d); d = mwh; b = b; based = true; percent = percent; paid = paid } ⌝ }
+        requires taken { ⌜ (mwh ≡ b * percent / 100) × (self .d ≤ mwh) × (mwh ≤ self .v + self .d) ⌝ }
+        requires charged { ⌜ paid ≡ self .paid + (changed (basedOn self b) mwh - changed (basedOn self b) (self .d)) ⌝ }
+        ensures { λ r. ⌜ r ≡ renewed (basedOn self b) percent ⌝ }
     {
         let p = self.plant;
         Running {
@@ -180,4 +222,28 @@ pub enum Refusal {
     NoHeadroom(InternalSequence),
     Short,
     NoDeck,
+}
+
+// Answers. Each that can refuse carries the refusal.
+
+pub enum Verdict {
+    Accepted,
+    Refused(Refusal),
+}
+
+// How many bytes or cells were written.
+pub enum Written {
+    Count(usize),
+    Refused(Refusal),
+}
+
+pub enum CurveAnswer {
+    Made(HeatCurve),
+    Refused(Refusal),
+}
+
+// A cost in grains.
+pub enum CostAnswer {
+    Cost(u64),
+    Refused(Refusal),
 }

@@ -1,77 +1,84 @@
--- The highest internal number below x that a delivery has: none between it and x has a member, and it has one.
-use mathlib.Core.Bool.{Bool, true, false}
+-- The highest number below x that a delivery has: none between it and x has a member, and it has one.
+use mathlib.Core.Bool.{Bool, true, false, not, _&&_, _||_}
 use mathlib.Core.List.{List}
 use mathlib.Core.Path.{_≡_, refl}
-use Prim.Native.Nat.{ℕ, zero, suc, _+_, _≤_, _<_, max}
-use native.Mathlib.Decide.{decLt}
+use Prim.Native.Nat.{ℕ, suc, _+_, _≤_, _<_}
 use native.Mathlib.Numerals.{add-one}
 use native.Mathlib.Omega.{arith}
-use borrow.Author.Tests.{eq-eqb, ne-eqb, ltb-true, ltb-false, lt-ltb, le-ltb}
+use borrow.Author.Tests.{ltb-true, ltb-false, lt-ltb}
 use lib.Dec.{ltb}
-use Rattle.rules.specs.Hour.{internalAt, member, counted}
+use Rattle.laws.specs.Internal.{number-itself, number-other}
+use Rattle.rules.specs.Hour.{noNumber, internalAt, counted}
 use Rattle.rules.specs.Words.{if_then_else_, sumTo}
 use Rattle.rules.specs.declared.InternalSequence.{InternalSequence}
+use Rattle.sequence.specs.declared.NextGroup.{NextGroup}
 
--- the greater of best and one more than y, where y is below x
-abbrev pub above : ℕ → ℕ → ℕ → ℕ
-above x y best = if ltb y x then max best (y + 1) else best
+abbrev pub isBelow : InternalSequence → InternalSequence → Bool
+isBelow x y = ltb (x .0) (y .0)
 
--- one more than the highest number below x of the first n deliveries, or 0
-unfoldable pub highestTo : List InternalSequence → ℕ → ℕ → ℕ
-highestTo ns x zero = 0
-highestTo ns x (suc n) = above x (internalAt ns n) (highestTo ns x n)
+-- whether y is higher than the best so far
+abbrev pub beaten : NextGroup → InternalSequence → Bool
+beaten best y = not (best .there) || isBelow (best .number) y
 
-pub record Highest (ns : List InternalSequence) (n x r : ℕ) : Type 0 where
-  pub most : r ≤ x
-  pub none : (y : ℕ) → r ≤ y → y < x → counted ns y n ≡ 0
-  pub found : (y : ℕ) → r ≡ suc y → 0 < counted ns y n
+-- the higher of the best so far and y, where y is below x
+abbrev pub higherOf : NextGroup → InternalSequence → InternalSequence → NextGroup
+higherOf best y x = if isBelow y x && beaten best y then record { there = true; number = y } else best
 
-module _ (ns : List InternalSequence) (x : ℕ) where
-  pub highest-none : 0 ≡ highestTo ns x 0
-  unfolding highestTo
-  highest-none = refl
+-- r is the highest number below x of the first n deliveries
+pub record Highest (ns : List InternalSequence) (n : ℕ) (x : InternalSequence) (r : NextGroup) : Type 0 where
+  pub lower : r .there ≡ true → isBelow (r .number) x ≡ true
+  pub found : r .there ≡ true → 0 < counted ns (r .number) n
+  pub none : (y : InternalSequence) → isBelow y x ≡ true → (r .there ≡ true → isBelow (r .number) y ≡ true) → counted ns y n ≡ 0
 
-  pub highest-more : (n s r : ℕ) → s ≡ highestTo ns x n → r ≡ above x (internalAt ns n) s → r ≡ highestTo ns x (n + 1)
-  unfolding highestTo
-  highest-more n s r e f = rw (add-one n, ← e) f
+pub highest-none : (ns : List InternalSequence) (x : InternalSequence) → Highest ns 0 x (record { there = false; number = noNumber })
+unfolding sumTo
+highest-none ns x = record { lower = λ e. (let z : _≡_ {A = ℕ} 0 1 = cc in absurd (omega arith)); found = λ e. (let z : _≡_ {A = ℕ} 0 1 = cc in absurd (omega arith)); none = λ y l f. refl }
 
-  pub highest-end : (n i r : ℕ) → i ≤ n → n ≤ i → r ≡ highestTo ns x i → r ≡ highestTo ns x n
-  highest-end n i r a b e = let q : i ≡ n = omega arith in rw q at e
+pub highest-end : (ns : List InternalSequence) (x : InternalSequence) (n j : ℕ) (r : NextGroup) → j ≤ n → n ≤ j → Highest ns j x r → Highest ns n x r
+highest-end ns x n j r a b h = let e : j ≡ n = omega arith in rw e at h
 
-  -- one delivery more
-  step : (n best : ℕ) → Highest ns n x best → Highest ns (suc n) x (above x (internalAt ns n) best)
+-- one delivery more
+module _ (ns : List InternalSequence) (x : InternalSequence) (n : ℕ) (best : NextGroup) (h : Highest ns n x best) where
+  abbrev y : InternalSequence
+  y = internalAt ns n
+
+  -- a number that delivery n has not is counted as before
+  other : (z : InternalSequence) → (y .0 ≡ z .0 → ⊥) → counted ns z n ≡ 0 → counted ns z (suc n) ≡ 0
   unfolding sumTo
-  step n best before = go (ltb (internalAt ns n) x) refl
+  other z f e = rw (number-other y z f) (omega arith)
+
+  itself : 0 < counted ns y (suc n)
+  unfolding sumTo
+  itself = rw (number-itself y) (omega arith)
+
+  still : (z : InternalSequence) → 0 < counted ns z n → 0 < counted ns z (suc n)
+  unfolding sumTo
+  still z l = omega arith
+
+  apart : (z w : InternalSequence) → isBelow z w ≡ true → z .0 < w .0
+  apart z w e = ltb-true (z .0) (w .0) e
+
+  kept : ((z : InternalSequence) → isBelow z x ≡ true → (best .there ≡ true → isBelow (best .number) z ≡ true) → y .0 ≡ z .0 → ⊥) → Highest ns (suc n) x best
+  kept f = record { lower = h .lower; found = λ e. still (best .number) (h .found e); none = λ z l g. other z (f z l g) (h .none z l g) }
+
+  taken : isBelow y x ≡ true → (best .there ≡ true → isBelow (best .number) y ≡ true) → Highest ns (suc n) x (record { there = true; number = y })
+  taken e f = record {
+    lower = λ t. e;
+    found = λ t. itself;
+    none = λ z l g.
+        let a = apart y z (g refl) in
+        other z (λ q. omega arith) (h .none z l (λ t. lt-ltb (best .number .0) (z .0) (omega (arith, apart (best .number) y (f t)))));
+  }
+
+  step : Highest ns (suc n) x (higherOf best y x)
+  step = go (isBelow y x) (best .there) (isBelow (best .number) y) refl refl refl
     where
-      other : (y : ℕ) → (internalAt ns n ≡ y → ⊥) → counted ns y n ≡ 0 → counted ns y n + (if member ns y n then 1 else 0) ≡ 0
-      other y f e = rw (ne-eqb (internalAt ns n) y f) (omega arith)
+      go : (a t b : Bool) → isBelow y x ≡ a → best .there ≡ t → isBelow (best .number) y ≡ b →
+          Highest ns (suc n) x (if a && (not t || b) then record { there = true; number = y } else best)
+      go false t b e f g = kept (λ z l k q. omega (arith, ltb-false (y .0) (x .0) e, apart z x l))
+      go true true false e f g = kept (λ z l k q. omega (arith, ltb-false (best .number .0) (y .0) g, apart (best .number) z (k f)))
+      go true true true e f g = taken e (λ t. g)
+      go true false b e f g = taken e (λ t. (let z : _≡_ {A = ℕ} 0 1 = cc in absurd (omega arith)))
 
-      go : (b : Bool) → ltb (internalAt ns n) x ≡ b → Highest ns (suc n) x (if b then max best (internalAt ns n + 1) else best)
-      go true e = record {
-        most = omega (arith, before .most, ltb-true (internalAt ns n) x e);
-        none = λ y a b. other y (λ q. omega arith) (before .none y (omega arith) b);
-        found = λ y q. elim (decLt (internalAt ns n) best) [
-          | yes l ↦ omega (arith, before .found y (omega arith))
-          | no l ↦ rw (eq-eqb (internalAt ns n) y (omega arith)) (omega arith)
-        ];
-      }
-      go false e = record {
-        most = before .most;
-        none = λ y a b. other y (λ q. omega (arith, ltb-false (internalAt ns n) x e)) (before .none y a b);
-        found = λ y q. omega (arith, before .found y q);
-      }
-
-  pub highest-is : (n : ℕ) → Highest ns n x (highestTo ns x n)
-  unfolding highestTo sumTo
-  highest-is zero = record { most = omega arith; none = λ y a b. refl; found = λ y e. absurd (omega arith) }
-  highest-is (suc n) = step n (highestTo ns x n) (highest-is n)
-
-module _ (x y best : ℕ) where
-  pub above-none : x ≤ y → best ≡ above x y best
-  above-none l = rw (le-ltb y x l)
-
-  pub above-less : y < x → y < best → best ≡ above x y best
-  above-less l m = rw (lt-ltb y x l) (omega arith)
-
-  pub above-more : y < x → best ≤ y → y + 1 ≡ above x y best
-  above-more l m = rw (lt-ltb y x l) (omega arith)
+  pub highest-more : (r : NextGroup) → r ≡ higherOf best y x → Highest ns (n + 1) x r
+  highest-more r e = rw (add-one n, e) step

@@ -1,6 +1,6 @@
 -- The internal numbers of an hour's deliveries as a full table, with no number past the last delivery.
 use mathlib.Core.List.{List, [], _∷_, _++_, map, map-append, append-assoc}
-use mathlib.Core.Path.{_≡_, refl, ap, _∙_}
+use mathlib.Core.Path.{_≡_, refl, _∙_}
 use Prim.Native.Nat.{ℕ, zero, suc, _+_, _-_, _≤_, _<_}
 use native.Mathlib.Numerals.{add-one}
 use native.Mathlib.Omega.{arith}
@@ -63,4 +63,4 @@ getD-padded (x ∷ xs) d m (suc j) = getD-padded xs d m j
 pub placings-same : (h : Hour) (j : ℕ) → internalAt (placings (h .deliveries) (h .ndeliveries)) j ≡ internalAt (numbers h) j
 unfolding placingsTo numbers
 placings-same h j =
-    ap (λ (x : InternalSequence). x .0) (getD-padded (map (numberOf (h .deliveries) (h .ndeliveries)) (take (h .ndeliveries) (h .deliveries))) noNumber (32 - h .ndeliveries) j)
+    getD-padded (map (numberOf (h .deliveries) (h .ndeliveries)) (take (h .ndeliveries) (h .deliveries))) noNumber (32 - h .ndeliveries) j

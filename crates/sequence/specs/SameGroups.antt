@@ -5,18 +5,18 @@ use Prim.Native.Nat.{ℕ, zero, suc, _-_}
 use lib.Dec.{eqb}
 use lib.ListN.{getD}
 use Rattle.rules.specs.Group.{Amount, noRunning, groupLines, remainder, signed, amount, upTo}
-use Rattle.rules.specs.Hour.{internalAt, member, scheduled, counted, share, Cells, Progress, shared, tookAll, rest, group, groups}
+use Rattle.rules.specs.Hour.{internalAt, member, scheduled, counted, share, Cells, Progress, shared, tookAll, rest, group, descending, groups}
 use Rattle.rules.specs.Refusals.{accepted, andThen}
-use Rattle.rules.specs.Sequences.{noDelivery}
+use Rattle.rules.specs.Sequences.{noDelivery, sameNumber}
 use Rattle.rules.specs.Words.{if_then_else_, sumTo}
 use Rattle.rules.specs.declared.Hour.{Hour}
 use Rattle.rules.specs.declared.InternalSequence.{InternalSequence}
 use Rattle.rules.specs.declared.Running.{Running}
 
 module _ (h : Hour) (ns ms : List InternalSequence) (same : (j : ℕ) → internalAt ns j ≡ internalAt ms j) where
-  module _ (x : ℕ) where
+  module _ (x : InternalSequence) where
     member-same : member ns x ≡ member ms x
-    member-same = λ d j. eqb (same j d) x
+    member-same = λ d j. sameNumber (same j d) x
 
     scheduled-same : (j : ℕ) → scheduled h ns x j ≡ scheduled h ms x j
     scheduled-same j = λ d. sumTo (λ i. if member-same d i then getD (h .deliveries) i noDelivery .mwh else 0) j
@@ -39,7 +39,7 @@ module _ (h : Hour) (ns ms : List InternalSequence) (same : (j : ℕ) → intern
     rest-same : (ss ts : List Running) (cell : Cells) → rest h ns x ss ts cell ≡ rest h ms x ss ts cell
     unfolding rest
     rest-same ss ts cell = λ d.
-        andThen (remainder (record { 0 = x }) (h .nsources) (scheduled-same (h .ndeliveries) d) (tookAll (h .nsources) ss ts) ts) λ us.
+        andThen (remainder x (h .nsources) (scheduled-same (h .ndeliveries) d) (tookAll (h .nsources) ss ts) ts) λ us.
         accepted (record { states = us; cells = shared-same ss ts us cell d })
 
     group-same : (p : Progress) → group h ns x p ≡ group h ms x p
@@ -51,4 +51,4 @@ module _ (h : Hour) (ns ms : List InternalSequence) (same : (j : ℕ) → intern
   pub same-groups : (k : ℕ) → groups h ns k ≡ groups h ms k
   unfolding groups
   same-groups zero = refl
-  same-groups (suc k) = λ d. andThen (same-groups k d) (λ p. group-same (999 - k) p d)
+  same-groups (suc k) = λ d. andThen (same-groups k d) (λ p. group-same (descending k) p d)

@@ -1,23 +1,82 @@
-// Each delivery's internal number: ten times its input number, or a place beside those of deliveries that have one; and the next lower number that one has.
-// The contracts cite `placings` of specs/, rules' `numbered` of each delivery. The search reads columns; its contracts speak of any deliveries that have them.
+// Each delivery's internal number: ten times its input number, or a place beside those of deliveries that have one; and the next group below a number.
+// The contracts cite rules' Sequences, and `placings` of specs/, rules' `numbered` of each delivery. The search reads columns; its contracts speak of any deliveries that have them.
 use rules::Delivery;
+use rules::InputSequence;
 use rules::InternalSequence;
 ghost use mathlib.Core.Bool.{true, _&&_};
 ghost use mathlib.Core.List.{List};
+ghost use mathlib.Core.Option.{some};
 ghost use mathlib.Core.Path.{_≡_};
 ghost use Prim.Native.Nat.{_≤_, _<_, min, max};
 ghost use lib.Dec.{eqb};
+ghost use Rattle.rules.specs.Sequences.{timesTen, sameNumber, before, after};
 ghost use Rattle.rules.specs.declared.Delivery.{Delivery};
-ghost use Rattle.sequence.specs.Columns.{Columns, Ranged, fits, inputIf, betterOf, Best, sought, under};
+ghost use Rattle.laws.specs.Internal.{internal};
+ghost use Rattle.sequence.specs.Columns.{Columns, Ranged, isNone, fits, numberIf, betterOf, Best, sought, under};
 ghost use Rattle.sequence.specs.RuleByRule.{Placing, Numbering};
 ghost use Rattle.sequence.specs.Placings.{Placeable, placings};
-ghost use Rattle.sequence.specs.HighestNumber.{above, Highest};
+ghost use Rattle.sequence.specs.HighestNumber.{isBelow, beaten, higherOf, Highest};
+
+// Above every number that a delivery has.
+pub const ABOVE_ALL: InternalSequence = InternalSequence(1000);
 
 // The deliveries that a rule looks for: of a type and block, of a type, or any.
 enum Sought {
     Block { kind: u32, block: u32 },
     Kind(u32),
     Any,
+}
+
+// The next group: whether a delivery is left for one, and its number.
+pub struct NextGroup {
+    pub there: bool,
+    pub number: InternalSequence,
+}
+
+// Numbers are made by these three alone.
+
+fn times_ten(s: InputSequence) -> InternalSequence
+    requires { ⌜ s .0 ≤ 99 ⌝ }
+    ensures { λ r. ⌜ r ≡ timesTen s ⌝ }
+{
+    InternalSequence(10 * s.0)
+}
+
+// A least match - 1.
+fn one_before(x: InternalSequence) -> InternalSequence
+    requires { ⌜ (0 < x .0) × (x .0 ≤ 990) ⌝ }
+    ensures { λ r. ⌜ some r ≡ before (some x) ⌝ }
+{
+    InternalSequence(x.0 - 1)
+}
+
+// A greatest match + 1.
+fn one_after(x: InternalSequence) -> InternalSequence
+    requires { ⌜ (0 < x .0) × (x .0 ≤ 990) ⌝ }
+    ensures { λ r. ⌜ some r ≡ after (some x) ⌝ }
+{
+    InternalSequence(x.0 + 1)
+}
+
+// And compared by these.
+
+pub fn same_number(x: InternalSequence, y: InternalSequence) -> bool
+    ensures { λ r. ⌜ r ≡ sameNumber x y ⌝ }
+{
+    x.0 == y.0
+}
+
+fn is_below(x: InternalSequence, y: InternalSequence) -> bool
+    ensures { λ r. ⌜ r ≡ isBelow x y ⌝ }
+{
+    x.0 < y.0
+}
+
+// 0 is no number: a delivery to be placed has it, and so is no match.
+fn is_none(x: InternalSequence) -> bool
+    ensures { λ r. ⌜ r ≡ isNone x ⌝ }
+{
+    x.0 == 0
 }
 
 fn same_block(kind: u32, block: u32, k: u32, b: u32) -> bool
@@ -39,42 +98,42 @@ fn is_sought(x: Sought, kind: u32, block: u32) -> bool
     }
 }
 
-// A delivery's input number where it is sought, else 0: a delivery to be placed has that number, and so is no match.
-fn input_if(x: Sought, kind: u32, block: u32, input: u32) -> u32
-    ensures { λ r. ⌜ r ≡ inputIf x kind block input ⌝ }
+// A delivery's own number where it is sought.
+fn number_if(x: Sought, kind: u32, block: u32, own: InternalSequence) -> InternalSequence
+    ensures { λ r. ⌜ r ≡ numberIf x kind block own ⌝ }
 {
     if is_sought(x, kind, block) {
-        return input;
+        return own;
     }
-    0
+    InternalSequence(0)
 }
 
-fn lesser(x: u32, y: u32) -> u32
-    ensures { λ r. ⌜ r ≡ min x y ⌝ }
+fn lesser(x: InternalSequence, y: InternalSequence) -> InternalSequence
+    ensures { λ r. ⌜ r ≡ internal (min (x .0) (y .0)) ⌝ }
 {
-    if x < y {
+    if is_below(x, y) {
         return x;
     }
     y
 }
 
-fn greater(x: u32, y: u32) -> u32
-    ensures { λ r. ⌜ r ≡ max x y ⌝ }
+fn greater(x: InternalSequence, y: InternalSequence) -> InternalSequence
+    ensures { λ r. ⌜ r ≡ internal (max (x .0) (y .0)) ⌝ }
 {
-    if x < y {
+    if is_below(x, y) {
         return y;
     }
     x
 }
 
-// Of two input numbers the greater or the lesser; 0 is none.
-fn better(greatest: bool, x: u32, y: u32) -> u32
+// Of two numbers the greater or the lesser, where there are any.
+fn better(greatest: bool, x: InternalSequence, y: InternalSequence) -> InternalSequence
     ensures { λ r. ⌜ r ≡ betterOf greatest x y ⌝ }
 {
-    if x == 0 {
+    if is_none(x) {
         return y;
     }
-    if y == 0 {
+    if is_none(y) {
         return x;
     }
     if greatest {
@@ -83,23 +142,24 @@ fn better(greatest: bool, x: u32, y: u32) -> u32
     lesser(x, y)
 }
 
-// The least, or greatest, input number of a match among the first n deliveries; 0 where there is none.
+// The least, or greatest, number of a match among the first n deliveries, whose own numbers stand in a column.
 fn best_match(
     kinds: &[u32; 32],
     blocks: &[u32; 32],
-    inputs: &[u32; 32],
+    own: [InternalSequence; 32],
     n: usize,
     greatest: bool,
     x: Sought,
-) -> u32
-    requires { ⌜ Ranged (now blocks) (now inputs) n ⌝ }
-    ensures { λ r. ⌜ Best (now (kinds .entry)) (now (blocks .entry)) (now (inputs .entry)) n greatest (sought x) r ⌝ }
+) -> InternalSequence
+    requires { ⌜ Ranged (now blocks) own n ⌝ }
+    ensures { λ r. ⌜ Best (now (kinds .entry)) (now (blocks .entry)) own n greatest (sought x) r ⌝ }
 {
-    let mut found: u32 = 0;
+    let mut found = InternalSequence(0);
     let mut i = 0;
     while i < n {
-        let input = input_if(x, kinds[i], blocks[i], inputs[i]);
-        found = better(greatest, found, input);
+        let y = own[i];
+        let number = number_if(x, kinds[i], blocks[i], y);
+        found = better(greatest, found, number);
         i += 1;
     }
     found
@@ -109,34 +169,34 @@ fn best_match(
 fn match_under(
     kinds: &[u32; 32],
     blocks: &[u32; 32],
-    inputs: &[u32; 32],
+    own: [InternalSequence; 32],
     n: usize,
     kind: u32,
     block: u32,
-) -> u32
-    requires { ⌜ Ranged (now blocks) (now inputs) n ⌝ }
-    ensures { λ r. ⌜ Best (now (kinds .entry)) (now (blocks .entry)) (now (inputs .entry)) n true (under kind block) r ⌝ }
+) -> InternalSequence
+    requires { ⌜ Ranged (now blocks) own n ⌝ }
+    ensures { λ r. ⌜ Best (now (kinds .entry)) (now (blocks .entry)) own n true (under kind block) r ⌝ }
 {
     if block <= 1 {
-        return 0;
+        return InternalSequence(0);
     }
     let x = Sought::Block {
         kind: kind,
         block: block - 1,
     };
-    best_match(kinds, blocks, inputs, n, true, x)
+    best_match(kinds, blocks, own, n, true, x)
 }
 
 // The number of delivery j, which is to be placed: the first of the rules a) to e) that finds a match decides, and where none does it has none.
 fn place(
     kinds: &[u32; 32],
     blocks: &[u32; 32],
-    inputs: &[u32; 32],
+    own: [InternalSequence; 32],
     n: usize,
     j: usize,
 ) -> InternalSequence
-    requires { ⌜ Ranged (now blocks) (now inputs) n × (j < n) ⌝ }
-    ensures { λ r. ⌜ Placing (now (kinds .entry)) (now (blocks .entry)) (now (inputs .entry)) n j r ⌝ }
+    requires { ⌜ Ranged (now blocks) own n × (j < n) ⌝ }
+    ensures { λ r. ⌜ Placing (now (kinds .entry)) (now (blocks .entry)) own n j r ⌝ }
 {
     let kind = kinds[j];
     let block = blocks[j];
@@ -144,29 +204,29 @@ fn place(
         kind: kind,
         block: block,
     };
-    let a = best_match(kinds, blocks, inputs, n, false, same);
-    if 0 < a {
-        return InternalSequence(10 * a - 1);
+    let a = best_match(kinds, blocks, own, n, false, same);
+    if !is_none(a) {
+        return one_before(a);
     }
     let next = Sought::Block {
         kind: kind,
         block: block + 1,
     };
-    let b = best_match(kinds, blocks, inputs, n, false, next);
-    if 0 < b {
-        return InternalSequence(10 * b - 1);
+    let b = best_match(kinds, blocks, own, n, false, next);
+    if !is_none(b) {
+        return one_before(b);
     }
-    let c = match_under(kinds, blocks, inputs, n, kind, block);
-    if 0 < c {
-        return InternalSequence(10 * c + 1);
+    let c = match_under(kinds, blocks, own, n, kind, block);
+    if !is_none(c) {
+        return one_after(c);
     }
-    let d = best_match(kinds, blocks, inputs, n, false, Sought::Kind(kind));
-    if 0 < d {
-        return InternalSequence(10 * d - 1);
+    let d = best_match(kinds, blocks, own, n, false, Sought::Kind(kind));
+    if !is_none(d) {
+        return one_before(d);
     }
-    let e = best_match(kinds, blocks, inputs, n, false, Sought::Any);
-    if 0 < e {
-        return InternalSequence(10 * e - 1);
+    let e = best_match(kinds, blocks, own, n, false, Sought::Any);
+    if !is_none(e) {
+        return one_before(e);
     }
     InternalSequence(0)
 }
@@ -174,34 +234,34 @@ fn place(
 fn number(
     kinds: &[u32; 32],
     blocks: &[u32; 32],
-    inputs: &[u32; 32],
+    own: [InternalSequence; 32],
     n: usize,
     j: usize,
 ) -> InternalSequence
-    requires { ⌜ Ranged (now blocks) (now inputs) n × (j < n) ⌝ }
-    ensures { λ r. ⌜ Numbering (now (kinds .entry)) (now (blocks .entry)) (now (inputs .entry)) n j r ⌝ }
+    requires { ⌜ Ranged (now blocks) own n × (j < n) ⌝ }
+    ensures { λ r. ⌜ Numbering (now (kinds .entry)) (now (blocks .entry)) own n j r ⌝ }
 {
-    let input = inputs[j];
-    if input == 0 {
-        return place(kinds, blocks, inputs, n, j);
+    let x = own[j];
+    if is_none(x) {
+        return place(kinds, blocks, own, n, j);
     }
-    InternalSequence(10 * input)
+    x
 }
 
 fn number_all(
     kinds: &[u32; 32],
     blocks: &[u32; 32],
-    inputs: &[u32; 32],
+    own: [InternalSequence; 32],
     n: usize,
 ) -> [InternalSequence; 32]
-    requires { ⌜ Ranged (now blocks) (now inputs) n ⌝ }
-    ensures { λ r. ⌜ ((ts : List Delivery) → Columns ts n (now (kinds .entry)) (now (blocks .entry)) (now (inputs .entry)) → r ≡ placings ts n) ⌝ }
+    requires { ⌜ Ranged (now blocks) own n ⌝ }
+    ensures { λ r. ⌜ ((ts : List Delivery) → Columns ts n (now (kinds .entry)) (now (blocks .entry)) own → r ≡ placings ts n) ⌝ }
 {
     let none = InternalSequence(0);
     let mut placed: [InternalSequence; 32] = [none; 32];
     let mut j = 0;
     while j < n {
-        placed[j] = number(kinds, blocks, inputs, n, j);
+        placed[j] = number(kinds, blocks, own, n, j);
         j += 1;
     }
     placed
@@ -212,44 +272,62 @@ pub fn numbers(ts: [Delivery; 32], n: usize) -> [InternalSequence; 32]
     requires { ⌜ Placeable ts n ⌝ }
     ensures { λ r. ⌜ r ≡ placings ts n ⌝ }
 {
+    let none = InternalSequence(0);
     let mut kinds: [u32; 32] = [0; 32];
     let mut blocks: [u32; 32] = [0; 32];
-    let mut inputs: [u32; 32] = [0; 32];
+    let mut own: [InternalSequence; 32] = [none; 32];
     let mut i = 0;
     while i < n {
         let t = ts[i];
         let sequence = t.sequence;
         kinds[i] = t.kind;
         blocks[i] = t.block;
-        inputs[i] = sequence.0;
+        own[i] = times_ten(sequence);
         i += 1;
     }
-    number_all(&kinds, &blocks, &inputs, n)
+    number_all(&kinds, &blocks, own, n)
 }
 
-// The greater of best and one more than y, where y is below x.
-fn higher(x: u32, y: u32, best: u32) -> u32
-    ensures { λ r. ⌜ r ≡ above x y best ⌝ }
+// Whether y is higher than the best so far.
+fn is_beaten(best: NextGroup, y: InternalSequence) -> bool
+    ensures { λ r. ⌜ r ≡ beaten best y ⌝ }
 {
-    if x <= y {
-        return best;
+    if !best.there {
+        return true;
     }
-    if y < best {
-        return best;
-    }
-    y + 1
+    let x = best.number;
+    is_below(x, y)
 }
 
-// One more than the highest number below x of the first n deliveries, or 0.
-pub fn highest(numbers: [InternalSequence; 32], n: usize, x: u32) -> u32
+// The higher of the best so far and y, where y is below x.
+fn higher(best: NextGroup, y: InternalSequence, x: InternalSequence) -> NextGroup
+    ensures { λ r. ⌜ r ≡ higherOf best y x ⌝ }
+{
+    if !is_below(y, x) {
+        return best;
+    }
+    if !is_beaten(best, y) {
+        return best;
+    }
+    NextGroup {
+        there: true,
+        number: y,
+    }
+}
+
+// The highest number below x that one of the first n deliveries has.
+pub fn highest_below(numbers: [InternalSequence; 32], n: usize, x: InternalSequence) -> NextGroup
     requires { ⌜ n ≤ 32 ⌝ }
     ensures { λ r. ⌜ Highest numbers n x r ⌝ }
 {
-    let mut best = 0;
+    let mut best = NextGroup {
+        there: false,
+        number: InternalSequence(0),
+    };
     let mut j = 0;
     while j < n {
         let y = numbers[j];
-        best = higher(x, y.0, best);
+        best = higher(best, y, x);
         j += 1;
     }
     best

@@ -17,7 +17,7 @@ use Rattle.rules.specs.declared.Hour.{Hour}
 use Rattle.rules.specs.declared.InternalSequence.{InternalSequence}
 
 -- a member of group x has what is more with it
-pub member-share : (h : Hour) (ns : List InternalSequence) (x : ℕ) (a : Amount) (j : ℕ) → member ns x j ≡ true →
+pub member-share : (h : Hour) (ns : List InternalSequence) (x : InternalSequence) (a : Amount) (j : ℕ) → member ns x j ≡ true →
     let total = scheduled h ns x (h .ndeliveries) in
     share h ns x a j ≡ signed (a .minus)
     (upTo total (a .size) (counted ns x j + 1) (scheduled h ns x j + getD (h .deliveries) j noDelivery .mwh) - upTo total (a .size) (counted ns x j) (scheduled h ns x j))

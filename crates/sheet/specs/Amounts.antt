@@ -14,6 +14,7 @@ use mir.Syntax.{w64}
 use mir.Val.{Fits, SFits, toZ, ofZ}
 use Rattle.laws.specs.Choices.{true-not-false}
 use Rattle.balance.specs.CellsFit.{SmallCell}
+use Rattle.rules.specs.declared.InternalSequence.{InternalSequence}
 use Rattle.ink.specs.Texts.{numberText, spacedText}
 use Rattle.sheet.specs.Lines.{partText, signedSpaced, amountsText, pairText, openText}
 
@@ -26,8 +27,8 @@ held z = toZ w64 (ofZ w64 z)
 pub amounts-held : {x y z : ℤ} → SFits w64 x → SFits w64 y → SFits w64 z → (rest : List ℕ) → amountsText (held x) (held y) (held z) rest ≡ amountsText x y z rest
 amounts-held a b c rest = rw (toZ-ofZ a, toZ-ofZ b, toZ-ofZ c)
 
-pub pair-held : (d : List ℕ) (n : ℕ) (s : List ℕ) {x y z : ℤ} → SFits w64 x → SFits w64 y → SFits w64 z → (rest : List ℕ) → pairText d n s (held x) (held y) (held z) rest ≡ pairText d n s x y z rest
-pair-held d n s a b c rest = ap (λ (w : List ℕ). partText d (spacedText n (32 ∷ partText s w))) (amounts-held a b c rest)
+pub pair-held : (d : List ℕ) (n : InternalSequence) (s : List ℕ) {x y z : ℤ} → SFits w64 x → SFits w64 y → SFits w64 z → (rest : List ℕ) → pairText d n s (held x) (held y) (held z) rest ≡ pairText d n s x y z rest
+pair-held d n s a b c rest = ap (λ (w : List ℕ). partText d (spacedText (n .0) (32 ∷ partText s w))) (amounts-held a b c rest)
 
 pub open-held : (s : List ℕ) {x y : ℤ} → SFits w64 x → SFits w64 y → (rest : List ℕ) → openText s (held x) (held y) rest ≡ openText s x y rest
 open-held s a b rest = rw (toZ-ofZ a, toZ-ofZ b)

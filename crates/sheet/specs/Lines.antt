@@ -8,6 +8,7 @@ use Rattle.rules.specs.Refusals.{numberOf, placeOf}
 use Rattle.rules.specs.Fields.{digits, escape, Chars}
 use Rattle.rules.specs.Report as report
 use Rattle.rules.specs.Report.{ReportLine, hour, pair, internal, end, refusal, signedText, labelText, _␣_, reportText}
+use Rattle.rules.specs.declared.InternalSequence.{InternalSequence}
 use Rattle.rules.specs.declared.Refusal.{Refusal}
 use Rattle.ink.specs.Inked.{Text, Front, front-byte, front-list, front-then}
 use Rattle.ink.specs.Texts.{spacedText, front-spaced}
@@ -25,8 +26,8 @@ abbrev pub amountsText : ℤ → ℤ → ℤ → Text
 amountsText x y z rest = signedSpaced x (signedSpaced y (signedSpaced z (10 ∷ rest)))
 
 -- a pair's line, and a source's open line, of labels' own bytes
-abbrev pub pairText : List ℕ → ℕ → List ℕ → ℤ → ℤ → ℤ → Text
-pairText d n s x y z rest = partText d (spacedText n (32 ∷ partText s (amountsText x y z rest)))
+abbrev pub pairText : List ℕ → InternalSequence → List ℕ → ℤ → ℤ → ℤ → Text
+pairText d n s x y z rest = partText d (spacedText (n .0) (32 ∷ partText s (amountsText x y z rest)))
 
 abbrev pub openText : List ℕ → ℤ → ℤ → Text
 openText s x y rest = text "internal " ++ partText s (signedSpaced x (signedSpaced y (10 ∷ rest)))
@@ -46,8 +47,8 @@ front-signed z = front-list (32 ∷ signedText z)
 pub front-amounts : (x y z : ℤ) → Front (amountsText x y z)
 front-amounts x y z = front-then (front-signed x) (front-then (front-signed y) (front-then (front-signed z) (front-byte 10)))
 
-pub front-pair : (d : List ℕ) (n : ℕ) (s : List ℕ) (x y z : ℤ) → Front (pairText d n s x y z)
-front-pair d n s x y z = front-then (front-part d) (front-then (front-spaced n) (front-then (front-byte 32) (front-then (front-part s) (front-amounts x y z))))
+pub front-pair : (d : List ℕ) (n : InternalSequence) (s : List ℕ) (x y z : ℤ) → Front (pairText d n s x y z)
+front-pair d n s x y z = front-then (front-part d) (front-then (front-spaced (n .0)) (front-then (front-byte 32) (front-then (front-part s) (front-amounts x y z))))
 
 pub front-open : (s : List ℕ) (x y : ℤ) → Front (openText s x y)
 front-open s x y = front-then (front-list (text "internal ")) (front-then (front-part s) (front-then (front-signed x) (front-then (front-signed y) (front-byte 10))))
@@ -69,10 +70,10 @@ unfolding report.reportText
 hour-line g l d x rest =
     sym (ap (λ (w : List ℕ). text "hour" ++ (32 ∷ w)) (spaced-then (digits g) _ _ (10 ∷ rest) (spaced-then (digits l) _ _ (10 ∷ rest) (spaced-then (digits d) (digits x) _ (10 ∷ rest) refl))))
 
-pub pair-line : (d : Chars) (n : ℕ) (s : Chars) (x y z : ℤ) (rest : List ℕ) → pairText (escape d) n (escape s) x y z rest ≡ printed (pair d n s x y z) rest
+pub pair-line : (d : Chars) (n : InternalSequence) (s : Chars) (x y z : ℤ) (rest : List ℕ) → pairText (escape d) n (escape s) x y z rest ≡ printed (pair d n s x y z) rest
 unfolding report.reportText
 pair-line d n s x y z rest =
-    sym (label-then d _ _ (10 ∷ rest) (spaced-then (digits n) _ _ (10 ∷ rest) (label-then s _ _ (10 ∷ rest)
+    sym (label-then d _ _ (10 ∷ rest) (spaced-then (digits (n .0)) _ _ (10 ∷ rest) (label-then s _ _ (10 ∷ rest)
     (spaced-then (signedText x) _ _ (10 ∷ rest) (spaced-then (signedText y) (signedText z) _ (10 ∷ rest) refl)))))
 
 pub open-line : (s : Chars) (v w : ℕ) (rest : List ℕ) → openText (escape s) (pos v) (pos w) rest ≡ printed (internal s v w) rest

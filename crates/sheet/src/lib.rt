@@ -10,6 +10,7 @@ ghost use Rattle.balance.specs.CellsFit.{SmallCell};
 ghost use Rattle.ink.specs.Inked.{Room, Inked};
 ghost use Rattle.ink.specs.Texts.{spacedText};
 ghost use Rattle.sheet.specs.Lines.{partText, signedSpaced, amountsText, pairText, openText, printed};
+use rules::InternalSequence;
 use rules::Refusal;
 
 // A signed number without its sign.
@@ -68,7 +69,7 @@ pub fn put_pair(
     buf: &mut [u8],
     at: usize,
     delivery: &[u8],
-    number: u32,
+    number: InternalSequence,
     source: &[u8],
     direct: i64,
     incremental: i64,
@@ -78,7 +79,7 @@ pub fn put_pair(
     ensures { λ r. ⌜ Inked (now (buf .entry)) at (now (buf .exit)) r (pairText (now (delivery .entry)) number (now (source .entry)) direct incremental cost) ⌝ }
 {
     let p = put_part(buf, at, delivery);
-    let q = ink::put_spaced(buf, p, number);
+    let q = ink::put_spaced(buf, p, number.0);
     let r = ink::put_byte(buf, q, 32);
     let s = put_part(buf, r, source);
     put_amounts(buf, s, direct, incremental, cost)

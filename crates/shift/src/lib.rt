@@ -23,7 +23,7 @@ pub fn step_of(p: Plant) -> u64
     match p {
         Plant::Unit(u) => {
             let k = u.curve;
-            dispatch::step_of(k.c as u64, k.r as u64)
+            dispatch::step_of(k.c() as u64, k.r() as u64)
         }
         Plant::Purchase { g: _, rate: _ } => 0,
         Plant::Fixed { g: _ } => 0,
@@ -40,7 +40,13 @@ fn down_top(s: Running, cap: u64) -> u64
     match p {
         Plant::Unit(u) => {
             let k = u.curve;
-            dispatch::unload_top(k.b as u64, k.c as u64, k.r as u64, (s.v + s.d) as u64, cap)
+            dispatch::unload_top(
+                k.b() as u64,
+                k.c() as u64,
+                k.r() as u64,
+                (s.v + s.d) as u64,
+                cap,
+            )
         }
         Plant::Purchase { g: _, rate } => dispatch::unload_top(
             1000 * (rate as u64),
@@ -63,7 +69,13 @@ fn up_top(s: Running, cap: u64) -> u64
     match p {
         Plant::Unit(u) => {
             let k = u.curve;
-            dispatch::credit_top(k.b as u64, k.c as u64, k.r as u64, (s.v + s.d) as u64, cap)
+            dispatch::credit_top(
+                k.b() as u64,
+                k.c() as u64,
+                k.r() as u64,
+                (s.v + s.d) as u64,
+                cap,
+            )
         }
         Plant::Purchase { g: _, rate } => dispatch::credit_top(1000 * (rate as u64), 0, 1, 0, cap),
         Plant::Fixed { g: _ } => dispatch::credit_top(0, 0, 0, 0, cap),

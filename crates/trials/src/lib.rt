@@ -4,9 +4,8 @@
 mod rebuilding;
 mod settling;
 
-use hour::Verdict;
-use reconstruct::Reconstructed;
 use rules::Basis;
+use rules::CurveAnswer;
 use rules::Delivery;
 use rules::Direct;
 use rules::HeatCurve;
@@ -17,17 +16,18 @@ use rules::Plant;
 use rules::Refusal;
 use rules::Source;
 use rules::Unit;
-use writer::Written;
+use rules::Verdict;
+use rules::Written;
 ghost use Prim.Native.Nat.{_<_};
 
 fn refusal_code(r: Refusal) -> u64 {
     (codes::number_of(r) % 16) * 65536 + (codes::place_of(r) as u64) % 65536
 }
 
-fn answer_code(x: Reconstructed) -> u64 {
+fn answer_code(x: Written) -> u64 {
     match x {
-        Reconstructed::Cells(n) => n as u64,
-        Reconstructed::Refused(r) => refusal_code(r),
+        Written::Count(n) => n as u64,
+        Written::Refused(r) => refusal_code(r),
     }
 }
 
@@ -50,10 +50,7 @@ pub extern "C" fn trial_cells(deck: &[u8], by_price: bool, out: &mut [i64]) -> u
 }
 
 fn written(h: Hour, out: &mut [u8]) -> u64 {
-    match writer::write(h, out) {
-        Written::Bytes(n) => n as u64,
-        Written::Refused(r) => refusal_code(r),
-    }
+    answer_code(writer::write(h, out))
 }
 
 #[no_mangle]
@@ -88,25 +85,16 @@ fn spoiled_label(l: Label, field: usize) -> Label {
     }
 }
 
-fn spoiled_curve(c: HeatCurve, field: usize) -> HeatCurve {
-    let mut x = c;
-    if field == 0 {
-        x.k = 0;
+// A unit whose curve starts above its emergency low: a curve outside its ranges cannot be made.
+fn late_unit(u: Unit) -> Unit {
+    let mut x = u;
+    let c = u.curve;
+    let CurveAnswer::Made(late) = HeatCurve::new(2000, c.a(), c.b(), c.c(), c.r()) else {
+        x.g = 2001;
         return x;
-    }
-    if field == 1 {
-        x.a = 1_000_000;
-        return x;
-    }
-    if field == 2 {
-        x.b = 100_000;
-        return x;
-    }
-    if field == 3 {
-        x.c = 100;
-        return x;
-    }
-    x.r = 39_997;
+    };
+    x.e = 1999;
+    x.curve = late;
     x
 }
 
@@ -128,53 +116,29 @@ fn spoiled_unit(u: Unit, field: usize) -> Unit {
         x.o = 0;
         return x;
     }
-    x.e = 0;
-    x
-}
-
-fn flat_unit(g: u32) -> Unit {
-    Unit {
-        g: g,
-        h: g,
-        n: g,
-        o: g,
-        e: g,
-        curve: HeatCurve {
-            k: 1,
-            a: 0,
-            b: 0,
-            c: 0,
-            r: 0,
-        },
+    if field == 4 {
+        x.e = 0;
+        return x;
     }
+    late_unit(u)
 }
 
-fn unit_of(p: Plant) -> Unit {
+fn spoiled_as_unit(p: Plant, field: usize) -> Plant {
     match p {
-        Plant::Unit(u) => u,
-        Plant::Purchase { g, rate: _ } => flat_unit(g),
-        Plant::Fixed { g } => flat_unit(g),
+        Plant::Unit(u) => Plant::Unit(spoiled_unit(u, field)),
+        Plant::Purchase { g: _, rate: _ } => Plant::Fixed { g: 2001 },
+        Plant::Fixed { g: _ } => Plant::Fixed { g: 2001 },
     }
-}
-
-fn with_curve(u: Unit, c: HeatCurve) -> Unit {
-    let mut x = u;
-    x.curve = c;
-    x
 }
 
 fn spoiled_plant(p: Plant, field: usize) -> Plant {
-    let u = unit_of(p);
-    if field < 5 {
-        return Plant::Unit(spoiled_unit(u, field));
+    if field < 6 {
+        return spoiled_as_unit(p, field);
     }
-    if field < 10 {
-        return Plant::Unit(with_curve(u, spoiled_curve(u.curve, field - 5)));
-    }
-    if field == 10 {
+    if field == 6 {
         return Plant::Purchase { g: 2001, rate: 1 };
     }
-    if field == 11 {
+    if field == 7 {
         return Plant::Purchase {
             g: 1,
             rate: 1_000_000,
@@ -183,11 +147,11 @@ fn spoiled_plant(p: Plant, field: usize) -> Plant {
     Plant::Fixed { g: 2001 }
 }
 
-// Fields 0 to 12 of its plant, then 3 of its label.
+// Fields 0 to 8 of its plant, then 3 of its label.
 fn spoiled_source(s: Source, field: usize) -> Source {
     let p = s.plant;
     let l = s.label;
-    if field < 13 {
+    if field < 9 {
         return Source {
             plant: spoiled_plant(p, field),
             label: l,
@@ -195,7 +159,7 @@ fn spoiled_source(s: Source, field: usize) -> Source {
     }
     Source {
         plant: p,
-        label: spoiled_label(l, field - 13),
+        label: spoiled_label(l, field - 9),
     }
 }
 
@@ -265,27 +229,27 @@ fn spoiled_counts(h: Hour, field: usize) -> Hour {
     x
 }
 
-// Fields 0 to 15 of a source, then 7 of a delivery, 4 of a D line, 4 of the hour itself.
+// Fields 0 to 11 of a source, then 7 of a delivery, 4 of a D line, 4 of the hour itself.
 fn spoiled(h: Hour, field: usize, at: usize) -> Hour
     requires { ⌜ at < 32 ⌝ }
 {
     let mut x = h;
-    if field < 16 {
+    if field < 12 {
         let s = h.sources[at];
         x.sources[at] = spoiled_source(s, field);
         return x;
     }
-    if field < 23 {
+    if field < 19 {
         let t = h.deliveries[at];
-        x.deliveries[at] = spoiled_delivery(t, field - 16);
+        x.deliveries[at] = spoiled_delivery(t, field - 12);
         return x;
     }
-    if field < 27 {
+    if field < 23 {
         let d = h.directs[at];
-        x.directs[at] = spoiled_direct(d, field - 23);
+        x.directs[at] = spoiled_direct(d, field - 19);
         return x;
     }
-    spoiled_counts(h, field - 27)
+    spoiled_counts(h, field - 23)
 }
 
 #[no_mangle]

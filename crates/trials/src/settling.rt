@@ -4,12 +4,12 @@ ghost use mathlib.Core.Path.{_≡_};
 ghost use Rattle.rules.specs.Group.{opened};
 ghost use Rattle.shift.specs.Ready.{AllReady};
 use group::Settled;
-use group::Verdict;
 use rules::Hour;
 use rules::InternalSequence;
 use rules::Plant;
 use rules::Running;
 use rules::Source;
+use rules::Verdict;
 
 // Every source at the hour's start.
 fn open_all(sources: [Source; 32]) -> [Running; 32]
@@ -86,7 +86,7 @@ pub fn settle_often(
         by_price,
     );
     let verdict = end.verdict;
-    let Verdict::Done = verdict else {
+    let Verdict::Accepted = verdict else {
         return 0;
     };
     put_levels(end, levels);

@@ -6,11 +6,11 @@ use mathlib.Core.Path.{_≡_, refl, sym, ap, _∙_}
 use Prim.Native.Nat.{ℕ, suc, _+_, _*_, _≤_, _<_}
 use native.Mathlib.Decide.{decLt, ℕ-discrete}
 use native.Mathlib.Omega.{arith}
-use borrow.Author.Tests.{eq-eqb, ne-eqb, eqb-true}
 use lib.IntN.{pos}
 use lib.ListN.{length, getD, set, replicate, length-set, length-replicate, getD-replicate, List·getD-eq-default}
 use lib.Seq.{getD-set-same, getD-set-other}
 use Rattle.amounts.specs.Amounts.{SourceRuns, taken, Amounts, told, Elsewhere, amount-small, amounts-told}
+use Rattle.laws.specs.Internal.{internal, number-same, number-itself, number-other}
 use Rattle.laws.specs.Sums.{sumTo-part}
 use Rattle.members.specs.Leads.{Lead, LeadsGroup}
 use Rattle.rules.specs.Group.{Item, Amount}
@@ -19,6 +19,9 @@ use Rattle.rules.specs.Words.{if_then_else_}
 use Rattle.rules.specs.declared.Hour.{Hour}
 use Rattle.rules.specs.declared.InternalSequence.{InternalSequence}
 use Rattle.rules.specs.declared.Running.{Running}
+
+value-same : {x y : InternalSequence} → x ≡ y → x .0 ≡ y .0
+value-same e = ap (λ (z : InternalSequence). z .0) e
 
 module _ (h : Hour) (ns : List InternalSequence) where
   -- delivery k's cells are shares of what its group's row tells
@@ -34,8 +37,8 @@ module _ (h : Hour) (ns : List InternalSequence) where
     pub direct-long : length direct ≡ 1024
     pub moved-long : length moved ≡ 1024
     pub leads : (j : ℕ) → j < h .ndeliveries → 0 < getD led j 0 → LeadsGroup h ns led direct moved j
-    pub owed : (k : ℕ) → k < h .ndeliveries → x ≤ internalAt ns k → internalAt ns k < 1000 → Owed cells led direct moved k
-    pub blank : (j i : ℕ) → j < h .ndeliveries → internalAt ns j < x → i < 32 → (getD direct (j * 32 + i) 0 ≡ 0) × (getD moved (j * 32 + i) 0 ≡ 0)
+    pub owed : (k : ℕ) → k < h .ndeliveries → x ≤ internalAt ns k .0 → internalAt ns k .0 < 1000 → Owed cells led direct moved k
+    pub blank : (j i : ℕ) → j < h .ndeliveries → internalAt ns j .0 < x → i < 32 → (getD direct (j * 32 + i) 0 ≡ 0) × (getD moved (j * 32 + i) 0 ≡ 0)
 
   zero-read : (n p : ℕ) → _≡_ {A = ℕ} (getD (replicate n 0) p 0) 0
   zero-read n p = elim (decLt p n) [
@@ -58,30 +61,30 @@ module _ (h : Hour) (ns : List InternalSequence) where
   counts-itself : (k : ℕ) → k < h .ndeliveries → 0 < counted ns (internalAt ns k) (h .ndeliveries)
   counts-itself k l =
       let x = internalAt ns k in
-      let one : _≡_ {A = ℕ} (if member ns x k then 1 else 0) 1 = rw (eq-eqb x x refl) in
+      let one : _≡_ {A = ℕ} (if member ns x k then 1 else 0) 1 = rw (number-itself x) in
       omega (arith, one, sumTo-part (λ i. if member ns x i then 1 else 0) (h .ndeliveries) k l)
 
-  pub kept-pass : (x y : ℕ) (cells : Cells) (led direct moved : List ℕ) → y ≤ x → ((z : ℕ) → y ≤ z → z < x → counted ns z (h .ndeliveries) ≡ 0) → Kept x cells led direct moved → Kept y cells led direct moved
+  pub kept-pass : (x y : ℕ) (cells : Cells) (led direct moved : List ℕ) → y ≤ x → ((z : ℕ) → y ≤ z → z < x → counted ns (internal z) (h .ndeliveries) ≡ 0) → Kept x cells led direct moved → Kept y cells led direct moved
   kept-pass x y cells led direct moved l none s = record {
     led-long = s .led-long;
     direct-long = s .direct-long;
     moved-long = s .moved-long;
     leads = s .leads;
-    owed = λ k b c d. elim (decLt (internalAt ns k) x) [
-      | yes a ↦ absurd (omega (arith, none (internalAt ns k) c a, counts-itself k b))
+    owed = λ k b c d. elim (decLt (internalAt ns k .0) x) [
+      | yes a ↦ absurd (omega (arith, none (internalAt ns k .0) c a, counts-itself k b))
       | no a ↦ s .owed k b (omega arith) d
     ];
     blank = λ j i a b c. s .blank j i a (omega arith) c;
   }
 
   -- group x is led by a delivery, and its amounts are in that row alone
-  module _ (x lead : ℕ) (cells : Cells) (led direct moved : List ℕ) (s : Kept (suc x) cells led direct moved) (few : h .nsources ≤ 32) (most : h .ndeliveries ≤ 32) (l : Lead ns (h .ndeliveries) x lead) where
+  module _ (x : InternalSequence) (lead : ℕ) (cells : Cells) (led direct moved : List ℕ) (s : Kept (suc (x .0)) cells led direct moved) (few : h .nsources ≤ 32) (most : h .ndeliveries ≤ 32) (l : Lead ns (h .ndeliveries) x lead) where
     its-number : internalAt ns lead ≡ x
-    its-number = eqb-true (internalAt ns lead) x (l .number)
+    its-number = number-same (internalAt ns lead) x (l .number)
 
     -- nothing stands in that row yet
     pub row-blank : (i : ℕ) → i < h .nsources → (getD direct (lead * 32 + i) 0 ≡ 0) × (getD moved (lead * 32 + i) 0 ≡ 0)
-    row-blank i b = s .blank lead i (l .within) (omega (arith, its-number)) (omega arith)
+    row-blank i b = s .blank lead i (l .within) (omega (arith, value-same its-number)) (omega arith)
 
     pub row-within : lead < 32
     row-within = omega (arith, l .within)
@@ -127,20 +130,20 @@ module _ (h : Hour) (ns : List InternalSequence) where
           lead = lead;
           leads = rw e l;
           marked = omega (arith, led-same);
-          cell = λ i item b. shared-member k i item (eq-eqb (internalAt ns k) x e) ∙ rw e (ap (λ (y : Amount). share h ns x y k) (sym (its-told i item b)));
+          cell = λ i item b. shared-member k i item (rw e (number-itself x)) ∙ rw e (ap (λ (y : Amount). share h ns x y k) (sym (its-told i item b)));
         }
 
-        other-owed : (k : ℕ) → internalAt ns k ≢ x → Owed cells led direct moved k → Owed (shared h ns x ss ts us cells) (set led lead (total + 1)) direct′ moved′ k
+        other-owed : (k : ℕ) → internalAt ns k .0 ≢ x .0 → Owed cells led direct moved k → Owed (shared h ns x ss ts us cells) (set led lead (total + 1)) direct′ moved′ k
         other-owed k e o =
-            let f : o .lead ≢ lead = λ q. e (sym (eqb-true (internalAt ns (o .lead)) (internalAt ns k) (o .leads .number)) ∙ ap (λ (j : ℕ). internalAt ns j) q ∙ its-number) in
+            let f : o .lead ≢ lead = λ q. e (value-same (sym (number-same (internalAt ns (o .lead)) (internalAt ns k) (o .leads .number)) ∙ ap (λ (j : ℕ). internalAt ns j) q ∙ its-number)) in
             record {
               lead = o .lead;
               leads = o .leads;
               marked = omega (arith, led-other (o .lead) f, o .marked);
-              cell = λ i item b. shared-other k i item (ne-eqb (internalAt ns k) x e) ∙ o .cell i item b ∙ ap (λ (y : Amount). share h ns (internalAt ns k) y k) (sym (other-told (o .lead) i item f b));
+              cell = λ i item b. shared-other k i item (number-other (internalAt ns k) x e) ∙ o .cell i item b ∙ ap (λ (y : Amount). share h ns (internalAt ns k) y k) (sym (other-told (o .lead) i item f b));
             }
 
-        pub kept-turn : Kept x (shared h ns x ss ts us cells) (set led lead (total + 1)) direct′ moved′
+        pub kept-turn : Kept (x .0) (shared h ns x ss ts us cells) (set led lead (total + 1)) direct′ moved′
         kept-turn = record {
           led-long = length-set led lead (total + 1) ∙ s .led-long;
           direct-long = d .long ∙ s .direct-long;
@@ -149,12 +152,12 @@ module _ (h : Hour) (ns : List InternalSequence) where
             | yes e ↦ rw e it-leads
             | no e ↦ other-leads j e (s .leads j b (omega (arith, led-other j e)))
           ];
-          owed = λ k b c f. elim (ℕ-discrete (internalAt ns k) x) [
-            | yes e ↦ its-owed k e
+          owed = λ k b c f. elim (ℕ-discrete (internalAt ns k .0) (x .0)) [
+            | yes e ↦ its-owed k (ap internal e)
             | no e ↦ other-owed k e (s .owed k b (omega arith) f)
           ];
           blank = λ j i b c f.
-              let e : j ≢ lead = λ q. (let z : internalAt ns j ≡ x = ap (λ (y : ℕ). internalAt ns y) q ∙ its-number in omega arith) in
+              let e : j ≢ lead = λ q. (let z : internalAt ns j .0 ≡ x .0 = value-same (ap (λ (y : ℕ). internalAt ns y) q ∙ its-number) in omega arith) in
               let g = s .blank j i b (omega arith) f in
               (d .kept j i e f ∙ g .0, m .kept j i e f ∙ g .1);
         }

@@ -9,6 +9,7 @@ use lib.ListN.{length, length-map, List·getD-map}
 use Rattle.accounts.specs.ValidHour.{valid-balances, valid-small, valid-levels}
 use Rattle.balance.specs.HourBalances.{plantAt, afterLines, Grouped, started, groups-keep, Balanced, lines-left, lines-directed, grouped-balanced, none-balanced, start-balanced}
 use Rattle.laws.specs.Choices.{refused-not-accepted, accepted-same}
+use Rattle.laws.specs.Internal.{internal}
 use Rattle.merit.specs.LevelNeverBelowB.{stateAt, Took}
 use Rattle.merit.specs.PlainMoves.{plain-length}
 use Rattle.merit.specs.RemainderMoves.{Unloaded, rung, bottom, noRoom, unload-is, Credited, raising, noHeadroom, credit-is}
@@ -87,7 +88,7 @@ module _ (h : Hour) (ns : List InternalSequence) where
     groups-stand =
         groups-keep h ns Standing start-standing (λ x p z s. record { balanced = none-balanced h ns x p (s .balanced); ready = s .ready }) grouped-standing
 
-    pub lines-fit : (x : ℕ) (p : Progress) → Standing (suc x) p → LinesFit (member ns x) (h .directs) (p .states) (h .nsources) (h .ndirects)
+    pub lines-fit : (x : ℕ) (p : Progress) → Standing (suc x) p → LinesFit (member ns (internal x)) (h .directs) (p .states) (h .nsources) (h .ndirects)
     lines-fit x p s = record {
       n-small = given .sources .few;
       k-small = given .directs .few;

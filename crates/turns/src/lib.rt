@@ -1,11 +1,11 @@
 // Every group of an hour in turn, from the highest number down, by either engine: the states in the end, and what each group takes of each source.
 // The contracts cite specs/: GroupTurns for where a run stands, AmountsKept for what the tables keep.
 use group::Settled;
-use group::Verdict;
 use rules::Hour;
 use rules::InternalSequence;
 use rules::Plant;
 use rules::Running;
+use rules::Verdict;
 ghost use mathlib.Core.Bool.{true};
 ghost use mathlib.Core.Path.{_≡_};
 ghost use Prim.Native.Nat.{_<_};
@@ -98,9 +98,9 @@ pub fn take_turns(
         group::first::renew(&mut down, &mut room, &mut above, &mut head, b, s);
         b += 1;
     }
-    let mut x = sequence::highest(numbers, h.ndeliveries, 1000);
-    while 0 < x {
-        let number = x - 1;
+    let mut next = sequence::highest_below(numbers, h.ndeliveries, sequence::ABOVE_ALL);
+    while next.there {
+        let number = next.number;
         let k = h.ndirects;
         let lead = members::lead_of(numbers, h.ndeliveries, number);
         let mut took: u64 = 0;
@@ -110,7 +110,7 @@ pub fn take_turns(
             let source = line.source;
             let delivery = line.delivery;
             let its = numbers[delivery];
-            if its.0 == number {
+            if sequence::same_number(its, number) {
                 let s = states[source];
                 let t = group::allocate(s, line);
                 took += (t.d - s.d) as u64;
@@ -150,9 +150,9 @@ pub fn take_turns(
                 i += 1;
             }
         } else {
-            let end = group::settle(InternalSequence(number), n, total, took, states, by_price);
+            let end = group::settle(number, n, total, took, states, by_price);
             let verdict = end.verdict;
-            let Verdict::Done = verdict else {
+            let Verdict::Accepted = verdict else {
                 return end;
             };
             let after = end.states;
@@ -169,10 +169,10 @@ pub fn take_turns(
             );
         }
         led[lead] = total + 1;
-        x = sequence::highest(numbers, h.ndeliveries, number);
+        next = sequence::highest_below(numbers, h.ndeliveries, number);
     }
     Settled {
-        verdict: Verdict::Done,
+        verdict: Verdict::Accepted,
         states: states,
     }
 }

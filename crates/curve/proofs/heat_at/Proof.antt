@@ -1,64 +1,39 @@
--- `curve::heat_at` meets its contract: its sums and products are small.
-use mathlib.Core.Path.{refl}
+-- By its four numbers.
+use mathlib.Core.Path.{_≡_, _∙_}
 use native.Mathlib.Omega.{arith}
 use borrow.Author.Needs.{needs}
-use Rattle.curve.proofs.Products.{bm-small, cm-small, cmm-small, sum-small, heat-small}
 use Rattle.curve.proofs.heat_at.Statement.{statement}
 use Rattle.curve.proofs.heat_at.Tie as tie
 
-cast-sum : tie.Need-cast-sum
-cast-sum c = search needs
+a-requires : tie.Need-a-requires
+a-requires c κs = search needs
 
-mul-sum : tie.Need-mul-sum
-mul-sum c = search needs
+b-requires : tie.Need-b-requires
+b-requires c κs = search needs
 
-cast-sum-2 : tie.Need-cast-sum-2
-cast-sum-2 c = search needs
+c-requires : tie.Need-c-requires
+c-requires c κs = search needs
 
-mul-sum-2 : tie.Need-mul-sum-2
-mul-sum-2 c = search needs
+r-requires : tie.Need-r-requires
+r-requires c κs = search needs
 
-mul-sum-3 : tie.Need-mul-sum-3
-mul-sum-3 c = let s = c .before .before in omega (arith, bm-small (s .args .c) (s .args .m) (s .pre .0) (s .pre .1))
-
-add-sum : tie.Need-add-sum
-add-sum c = let s = c .before .before in omega (arith, s .pre .0 .a, bm-small (s .args .c) (s .args .m) (s .pre .0) (s .pre .1))
-
-cast-sum-3 : tie.Need-cast-sum-3
-cast-sum-3 c = search needs
-
-mul-sum-4 : tie.Need-mul-sum-4
-mul-sum-4 c = let s = c .before .before .before in omega (arith, cm-small (s .args .c) (s .args .m) (s .pre .0) (s .pre .1))
-
-mul-sum-5 : tie.Need-mul-sum-5
-mul-sum-5 c = let s = c .before .before .before in omega (arith, cmm-small (s .args .c) (s .args .m) (s .pre .0) (s .pre .1))
-
-add-sum-2 : tie.Need-add-sum-2
-add-sum-2 c = let s = c .before .before .before in omega (arith, sum-small (s .args .c) (s .args .m) (s .pre .0) (s .pre .1))
-
-cast-result : tie.Need-cast-result
-cast-result c = search needs
-
-mul-result : tie.Need-mul-result
-mul-result c = let s = c .before .before .before .before in omega (arith, heat-small (s .args .c) (s .args .m) (s .pre .0) (s .pre .1))
+heat-of-requires : tie.Need-heat-of-requires
+heat-of-requires c κs =
+    let start = c .before .before .before .before in (
+      record {
+        k = omega arith;
+        a = omega (arith, c .before .before .before .a .ensures, start .pre .0 .a);
+        b = omega (arith, c .before .before .b .ensures, start .pre .0 .b);
+        c = omega (arith, c .before .c .ensures, start .pre .0 .c);
+        r = omega (arith, c .r .ensures, start .pre .0 .r);
+      },
+      start .pre .1,
+    )
 
 returns : tie.Need-returns
-returns c = let s = c .before .before .before .before in (refl, heat-small (s .args .c) (s .args .m) (s .pre .0) (s .pre .1))
+returns c =
+    let at-call = c .before in
+    rw (at-call .before .before .before .a .ensures, at-call .before .before .b .ensures, at-call .before .c .ensures, at-call .r .ensures) at (c .heat-of .ensures)
 
 pub heat-at-spec : {M : Type 1} → statement M
-heat-at-spec =
-    tie.close
-    (tie.spec
-    cast-sum
-    mul-sum
-    cast-sum-2
-    mul-sum-2
-    mul-sum-3
-    add-sum
-    cast-sum-3
-    mul-sum-4
-    mul-sum-5
-    add-sum-2
-    cast-result
-    mul-result
-    returns)
+heat-at-spec = tie.close (tie.spec a-requires b-requires c-requires r-requires heat-of-requires returns)

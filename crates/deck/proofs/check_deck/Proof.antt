@@ -1,7 +1,7 @@
 -- `deck::check_deck` meets its contract: the answer's verdict.
 use mathlib.Core.Path.{ap, _∙_}
 use Rattle.rules.specs.Reading.{reading}
-use Rattle.deck.specs.Rows.{verdict-told}
+use Rattle.deck.specs.Answers.{verdict-told}
 use Rattle.deck.specs.declared.ReadHour.{ReadHour}
 use borrow.Author.Needs.{needs}
 use Rattle.deck.proofs.check_deck.Statement.{statement}

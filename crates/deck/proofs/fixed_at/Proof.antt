@@ -23,11 +23,21 @@ source-refused-requires c κs = search needs
 returns : tie.Need-returns
 returns c = rw (← (c .before .before .before .before .fixed .ensures), c .before .before .enum-told .given .1, c .source-refused .ensures, c .before .next-line .ensures)
 
+plant-in-range-requires : tie.Need-plant-in-range-requires
+plant-in-range-requires c κs = search needs
+
 try-source-requires : tie.Need-try-source-requires
-try-source-requires c κs = (c .before .before .before .before .before .pre, fixed-told (c .before .before .before .before .before .args .s .now) (c .before .before .before .before .before .args .at) (c .before .g .given .0 .0) (c .before .g .given .0 .1 .0) (c .before .g .given .0 .1 .1 .0) (c .before .g .given .0 .1 .1 .1 .0) (sym (c .before .before .before .fixed .ensures) ∙ c .before .g .given .1))
+try-source-requires c κs =
+    let line = c .before .before in
+    let read = line .before .before in
+    let start = read .before .before in
+    (start .pre, fixed-told (start .args .s .now) (start .args .at) (line .g .given .0 .0) (line .g .given .0 .1 .0) (line .g .given .0 .1 .1 .0) (line .g .given .0 .1 .1 .1 .0) (sym (read .fixed .ensures) ∙ line .g .given .1))
 
 returns-2 : tie.Need-returns-2
-returns-2 c = rw (← (c .before .before .before .before .fixed .ensures), c .before .before .g .given .1) (c .try-source .ensures)
+returns-2 c =
+    let ranged = c .before in
+    let line = ranged .before .before in
+    rw (← (line .before .before .fixed .ensures), line .g .given .1, ← (ranged .plant-in-range .ensures)) (c .try-source .ensures)
 
 pub fixed-at-spec : {M : Type 1} → statement M
 fixed-at-spec =
@@ -39,5 +49,6 @@ fixed-at-spec =
     next-line-requires
     source-refused-requires
     returns
+    plant-in-range-requires
     try-source-requires
     returns-2)

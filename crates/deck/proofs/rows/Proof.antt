@@ -12,8 +12,8 @@ use Rattle.rules.specs.declared.Hour.{Hour}
 use Rattle.rules.specs.declared.Refusal.{Refusal}
 use Rattle.rules.specs.declared.Refusal.the-variants.{Form}
 use Rattle.hour.specs.Tried.{Tables}
-use Rattle.hour.specs.TablesKept.{verdict-refused}
-use Rattle.hour.specs.declared.Verdict.the-variants.{Refused}
+use Rattle.laws.specs.Answers.{verdict-refused}
+use Rattle.rules.specs.declared.Verdict.the-variants.{Refused}
 use Rattle.deck.specs.Turns.{SourceTurn, DeliveryTurn, DirectTurn, DirectTakes, source-at-turn, delivery-at-turn, direct-at-turn}
 use Rattle.deck.specs.Rows.{Rows, rows-started, rows-source, rows-delivery, rows-direct, rows-ended, end-refused, end-finished, rows-accepted, answer-refused, finished-accepts}
 use Rattle.deck.proofs.rows.Statement.{statement}

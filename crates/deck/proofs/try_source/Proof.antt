@@ -19,15 +19,12 @@ label-at-requires c κs = search needs
 key-of-requires : tie.Need-key-of-requires
 key-of-requires c κs = search needs
 
-plant-in-range-requires : tie.Need-plant-in-range-requires
-plant-in-range-requires c κs = search needs
-
 take-source-requires : tie.Need-take-source-requires
 take-source-requires c κs = search needs
 
 returns : tie.Need-returns
 unfolding steps.sourceStep
-returns c = rw (c .take-source .ensures, c .before .plant-in-range .ensures, c .before .before .key-of .ensures, c .before .before .before .label-at .ensures)
+returns c = let key = c .before in rw (c .take-source .ensures, key .key-of .ensures, key .before .label-at .ensures)
 
 pub try-source-spec : {M : Type 1} → statement M
 try-source-spec =
@@ -38,6 +35,5 @@ try-source-spec =
     part-label-at-end
     label-at-requires
     key-of-requires
-    plant-in-range-requires
     take-source-requires
     returns)

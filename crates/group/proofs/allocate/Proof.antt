@@ -1,11 +1,11 @@
 -- `group::allocate` meets its contract: the MWh and the cost only grow, and all fits.
 use mathlib.Core.Logic.{⊎-elim}
-use mathlib.Core.Path.{_≡_, sym, ap, _∙_}
+use mathlib.Core.Path.{_≡_, refl, sym, ap, _∙_}
 use Prim.Native.Nat.{_+_}
 use native.Mathlib.Nat.{mul-le-mul}
 use native.Mathlib.Omega.{arith}
 use borrow.Author.Needs.{needs}
-use Rattle.group.specs.Directs.{Allocates, allocates, directed-is}
+use Rattle.group.specs.Directs.{Allocates, allocates, directed-is, charged-is}
 use Rattle.merit.specs.ChangedFromB.{changed-zero}
 use Rattle.merit.specs.NumbersStaySmall.{paid-small}
 use Rattle.rules.specs.Group.{changed, withBasic}
@@ -46,12 +46,17 @@ add-with-direct : tie.Need-add-with-direct
 add-with-direct c = omega (arith, paid-small (c .before .before .before .before .before .before .before .before .args .s) (c .before .before .before .before .before .before .before .before .pre .0 .0) (c .before .before .before .before .before .before .before .before .pre .0 .1), c .before .before .before .before .changed-cost .ensures .1)
 
 with-direct-requires : tie.Need-with-direct-requires
-with-direct-requires c κs = let a = facts (c .before .before .before .before .before .before .before .before) in rw (c .before .before .before .before .before .before .before .with-basic .ensures) (a .more, a .within)
+with-direct-requires c κs =
+    let at-basic = c .before .before .before .before .before .before .before in
+    let e = at-basic .with-basic .ensures in
+    let a = facts (at-basic .before) in
+    let s = at-basic .before .args .s in
+    (rw e (refl, a .more, a .within), charged-is s (at-basic .before .args .line) _ e _ _ (c .before .before .before .before .changed-cost .ensures .0) (charged (c .before .before)))
 
 returns : tie.Need-returns
 returns c =
-    let e = c .before .before .before .before .before .before .before .before .with-basic .ensures in
-    c .with-direct .ensures ∙ directed-is (c .before .before .before .before .before .before .before .before .before .args .s) (c .before .before .before .before .before .before .before .before .before .args .line) _ _ _ e (c .before .before .before .before .before .changed-cost .ensures .0) (rw e (charged (c .before .before .before)))
+    let at-basic = c .before .before .before .before .before .before .before .before in
+    c .with-direct .ensures ∙ directed-is (at-basic .before .args .s) (at-basic .before .args .line) _ (at-basic .with-basic .ensures)
 
 pub allocate-spec : {M : Type 1} → statement M
 allocate-spec =

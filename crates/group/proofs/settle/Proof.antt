@@ -7,7 +7,7 @@ use lib.Dec.{ltb}
 use lib.ListN.{set}
 use Rattle.dispatch.specs.Taken.{Taken}
 use Rattle.dispatch.specs.TakenIsPlain.{LinesOf, lines-sources}
-use Rattle.group.specs.declared.Verdict.the-variants.{Done}
+use Rattle.rules.specs.declared.Verdict.the-variants.{Accepted}
 use Rattle.group.specs.Settling.{settled, wayAt, Trying, way-side, way-priced, short-none, short-more, short-all, settled-end, remainder-by, remainder-outcome}
 use Rattle.ladder.specs.Ways.{wayOf, upOf, lines-next, long-lines, lines-long, lines-done, lines-room, taken-within, engine-plain}
 use Rattle.laws.specs.Sums.{sumTo-none, sumTo-more, sumTo-end}
@@ -27,14 +27,14 @@ abbrev μ-loop2 : tie.MeasureT-loop2
 μ-loop2 number n total took by-price up rest ways one₀ step₀ cap₀ end tried way sum₀ i₀ one step cap sum i = n - i
 
 abbrev Inv-loop3 : tie.InvT-loop3
-Inv-loop3 n total took by-price up rest ways end₀ tried sum i taken k₀ end k = (k ≤ n) × Shifted up (end₀ .states) k (at taken) (end .states) × (end .verdict ≡ Done)
+Inv-loop3 n total took by-price up rest ways end₀ tried sum i taken k₀ end k = (k ≤ n) × Shifted up (end₀ .states) k (at taken) (end .states) × (end .verdict ≡ Accepted)
 
 abbrev μ-loop3 : tie.MeasureT-loop3
 μ-loop3 n total took by-price up rest ways end₀ tried sum i taken k₀ end k = n - k
 
 abbrev Inv-loop : tie.InvT-loop
 Inv-loop number n total took by-price up rest ways one₀ step₀ cap₀ end₀ tried₀ one step cap end tried =
-    (tried ≤ ways) × (end .verdict ≡ Done) × Trying up n (end₀ .states) rest one step cap (end .states) tried
+    (tried ≤ ways) × (end .verdict ≡ Accepted) × Trying up n (end₀ .states) rest one step cap (end .states) tried
 
 abbrev μ-loop : tie.MeasureT-loop
 μ-loop number n total took by-price up rest ways one₀ step₀ cap₀ end₀ tried₀ one step cap end tried = ways - tried

@@ -69,11 +69,11 @@ add-if4 c = search needs
 
 returns-5 : tie.Need-returns-5
 unfolding tried.directTried
-returns-5 c = rw (← (c .before .before .before .before .before .before .before .before .before .before .before .before .before .before .before .next-line .ensures), c .before .before .before .before .before .before .before .before .before .before .before .before .before .before .if1 .left, lt-leb _ _ (c .before .before .before .before .before .before .before .before .before .before .before .before .if2 .left), ← (c .before .before .before .before .before .before .before .before .before .before .before .find-pair .ensures), c .before .before .before .before .before .before .before .before .before .i .given .1, sym (c .before .before .before .before .before .basis-allowed .ensures) ∙ not-false _ (c .before .before .before .before .if3 .left), sum-above refl (c .before .before .wide .ensures .0) (c .before .wide2 .ensures .0) (c .if4 .taken))
+returns-5 c = rw (← (c .before .before .before .before .before .before .before .before .before .before .before .before .before .before .before .next-line .ensures), c .before .before .before .before .before .before .before .before .before .before .before .before .before .before .if1 .left, lt-leb _ _ (c .before .before .before .before .before .before .before .before .before .before .before .before .if2 .left), ← (c .before .before .before .before .before .before .before .before .before .before .before .find-pair .ensures), c .before .before .before .before .before .before .before .before .before .i .given .1, sym (c .before .before .before .before .before .basis-allowed .ensures) ∙ not-false _ (c .before .before .before .before .if3 .left), sum-above {a = 100} refl (c .before .before .wide .ensures .0) (c .before .wide2 .ensures .0) (c .if4 .taken))
 
 returns-6 : tie.Need-returns-6
 unfolding tried.directTried
-returns-6 c = rw (← (c .before .before .before .before .before .before .before .before .before .before .before .before .before .before .before .next-line .ensures), c .before .before .before .before .before .before .before .before .before .before .before .before .before .before .if1 .left, lt-leb _ _ (c .before .before .before .before .before .before .before .before .before .before .before .before .if2 .left), ← (c .before .before .before .before .before .before .before .before .before .before .before .find-pair .ensures), c .before .before .before .before .before .before .before .before .before .i .given .1, sym (c .before .before .before .before .before .basis-allowed .ensures) ∙ not-false _ (c .before .before .before .before .if3 .left), sum-within refl (c .before .before .wide .ensures .0) (c .before .wide2 .ensures .0) (c .if4 .left))
+returns-6 c = rw (← (c .before .before .before .before .before .before .before .before .before .before .before .before .before .before .before .next-line .ensures), c .before .before .before .before .before .before .before .before .before .before .before .before .before .before .if1 .left, lt-leb _ _ (c .before .before .before .before .before .before .before .before .before .before .before .before .if2 .left), ← (c .before .before .before .before .before .before .before .before .before .before .before .find-pair .ensures), c .before .before .before .before .before .before .before .before .before .i .given .1, sym (c .before .before .before .before .before .basis-allowed .ensures) ∙ not-false _ (c .before .before .before .before .if3 .left), sum-within {a = 100} refl (c .before .before .wide .ensures .0) (c .before .wide2 .ensures .0) (c .if4 .left))
 
 pub take-direct-spec : {M : Type 1} → statement M
 take-direct-spec =

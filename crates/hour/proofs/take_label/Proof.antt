@@ -11,7 +11,7 @@ returns c = rw (c .if1 .taken)
 
 returns-2 : tie.Need-returns-2
 unfolding tried.labelTried
-returns-2 c = rw (c .before .if1 .left, le-leb _ _ (c .if2 .taken))
+returns-2 c = rw (c .before .if1 .left, le-leb 32 _ (c .if2 .taken))
 
 find-key-requires : tie.Need-find-key-requires
 find-key-requires c κs = search needs
@@ -21,14 +21,14 @@ enum-known-i c = search needs
 
 returns-3 : tie.Need-returns-3
 unfolding tried.labelTried
-returns-3 c = rw (c .before .before .before .before .before .if1 .left, lt-leb _ _ (c .before .before .before .before .if2 .left), ← (c .before .before .before .find-key .ensures), c .before .i .given .1)
+returns-3 c = rw (c .before .before .before .before .before .if1 .left, lt-leb 32 _ (c .before .before .before .before .if2 .left), ← (c .before .before .before .find-key .ensures), c .before .i .given .1)
 
 enum-told : tie.Need-enum-told
 enum-told c = search needs
 
 returns-4 : tie.Need-returns-4
 unfolding tried.labelTried
-returns-4 c = rw (c .before .before .before .before .if1 .left, lt-leb _ _ (c .before .before .before .if2 .left), ← (c .before .before .find-key .ensures), c .enum-told .given .1)
+returns-4 c = rw (c .before .before .before .before .if1 .left, lt-leb 32 _ (c .before .before .before .if2 .left), ← (c .before .before .find-key .ensures), c .enum-told .given .1)
 
 pub take-label-spec : {M : Type 1} → statement M
 take-label-spec =

@@ -6,11 +6,11 @@ use Rattle.ladder.specs.LastStep.{before-none, before-first, before-othe
 use Rattle.ladder.proofs.goes_before.Statement.{statement}
 use Rattle.ladder.proofs.goes_before.Tie as tie
 
-room-of-requires : tie.Need-room-of-requires
-room-of-requires c κs = search needs
+unit-room-requires : tie.Need-unit-room-requires
+unit-room-requires c κs = search needs
 
 returns : tie.Need-returns
-returns c = let a = c .before .before .args in before-none _ (a .found) (a .s) (a .other) (c .before .room-of .ensures) (c .if1 .taken)
+returns c = let a = c .before .before .args in before-none _ (a .found) (a .s) (a .other) (c .before .unit-room .ensures .0) (c .if1 .taken)
 
 dearer-average-requires : tie.Need-dearer-average-requires
 dearer-average-requires c κs =
@@ -21,10 +21,10 @@ dearer-average-requires c κs =
 returns-2 : tie.Need-returns-2
 returns-2 c =
     let a = c .before .before .before .before .args in
-    c .dearer-average .ensures ∙ before-other _ (a .found) (a .s) (a .other) (c .before .before .before .room-of .ensures) (c .before .before .if1 .left) (c .before .if2 .taken)
+    c .dearer-average .ensures ∙ before-other _ (a .found) (a .s) (a .other) (c .before .before .before .unit-room .ensures .0) (c .before .before .if1 .left) (c .before .if2 .taken)
 
 returns-3 : tie.Need-returns-3
-returns-3 c = let a = c .before .before .before .args in before-first _ (a .found) (a .s) (a .other) (c .before .before .room-of .ensures) (c .before .if1 .left) (c .if2 .left)
+returns-3 c = let a = c .before .before .before .args in before-first _ (a .found) (a .s) (a .other) (c .before .before .unit-room .ensures .0) (c .before .if1 .left) (c .if2 .left)
 
 pub goes-before-spec : {M : Type 1} → statement M
-goes-before-spec = tie.close (tie.spec room-of-requires returns dearer-average-requires returns-2 returns-3)
+goes-before-spec = tie.close (tie.spec unit-room-requires returns dearer-average-requires returns-2 returns-3)

@@ -5,6 +5,7 @@ use native.Mathlib.Omega.{arith}
 use borrow.Author.Needs.{needs}
 use Rattle.ladder.specs.LastStep.{Stepping, stepping-start, chosen-there, chosen-given, Given, stepping-more, stepping-end}
 use Rattle.merit.specs.LevelNeverBelowB.{stateAt}
+use Rattle.merit.specs.PlainMoves.{unit-room-most}
 use Rattle.merit.specs.RemainderMoves.{room-open}
 use Rattle.rules.specs.Group.{last}
 use Rattle.ladder.proofs.last_step.Statement.{statement}
@@ -23,7 +24,7 @@ there c = chosen-there (c .before .before .loop .inv) _ (c .before .loop-test .t
 given : (c : tie.After-least Inv-loop μ-loop) → Given (c .before .before .before .before .before .loop .after) (c .before .before .before .before .before .loop .rest) (c .before .before .before .dearest .result) (c .least .result)
 given c =
     chosen-given (c .before .before .before .before .before .loop .inv) _ _ (c .before .before .before .before .loop-test .taken) (c .before .before .before .dearest .ensures)
-    (c .least .ensures ∙ ap (λ (x : ℕ). min x (c .before .before .before .before .before .loop .rest)) (c .before .room-by .ensures .0))
+    (c .least .ensures ∙ ap (λ (x : ℕ). min x (c .before .before .before .before .before .loop .rest)) (c .before .unit-room .ensures .0))
 
 loop-holds : tie.Need-loop-holds Inv-loop μ-loop
 loop-holds c = stepping-start _ _ _ (search needs) (c .pre .0) (c .pre .1)
@@ -37,14 +38,14 @@ mul-s c = search needs
 array-copy-out-s : tie.Need-array-copy-out-s Inv-loop μ-loop
 array-copy-out-s c = omega (arith, there c, c .before .before .before .pre .0 .n-small)
 
-room-by-requires : tie.Need-room-by-requires Inv-loop μ-loop
-room-by-requires c κs = c .before .before .before .loop .inv .ready _
+unit-room-requires : tie.Need-unit-room-requires Inv-loop μ-loop
+unit-room-requires c κs = c .before .before .before .loop .inv .ready _
 
 least-requires : tie.Need-least-requires Inv-loop μ-loop
 least-requires c κs = search needs
 
 shift-one-requires : tie.Need-shift-one-requires Inv-loop μ-loop
-shift-one-requires c κs = (c .before .before .before .before .before .loop .inv .ready _, omega (arith, given c .room, room-open last (stateAt (c .before .before .before .before .before .loop .after) (c .before .before .before .dearest .result))))
+shift-one-requires c κs = (c .before .before .before .before .before .loop .inv .ready _, omega (arith, given c .room, unit-room-most (stateAt (c .before .before .before .before .before .loop .after) (c .before .before .before .dearest .result)), room-open last (stateAt (c .before .before .before .before .before .loop .after) (c .before .before .before .dearest .result))))
 
 mul-after : tie.Need-mul-after Inv-loop μ-loop
 mul-after c = search needs
@@ -74,7 +75,7 @@ last-step-spec =
     dearest-requires
     mul-s
     array-copy-out-s
-    room-by-requires
+    unit-room-requires
     least-requires
     shift-one-requires
     mul-after

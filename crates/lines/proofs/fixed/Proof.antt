@@ -1,59 +1,45 @@
 -- `lines::fixed` meets its contract: the way to each return is the way through the line's chain of answers.
 use borrow.Author.Needs.{needs}
 use Rattle.lines.proofs.Chains.{fixed-chain}
-use borrow.Author.Needs.{needs}
 use Rattle.lines.proofs.fixed.Statement.{statement}
 use Rattle.lines.proofs.fixed.Tie as tie
 
--- src/lib.rt:142:37
 spaced-number-requires : tie.Need-spaced-number-requires
 spaced-number-requires c κs = search needs
 
--- src/lib.rt:142:29
 enum-known-g : tie.Need-enum-known-g
 enum-known-g c = search needs
 
--- src/lib.rt:143:9
 enum-told : tie.Need-enum-told
 enum-told c = search needs
 
--- src/lib.rt:143:9
 returns : tie.Need-returns
 returns c = rw (fixed-chain, ← (c .before .before .spaced-number .ensures), c .enum-told .given .1)
 
--- src/lib.rt:145:41
 spaced-label-requires : tie.Need-spaced-label-requires
 spaced-label-requires c κs = search needs
 
--- src/lib.rt:145:24
 enum-known-from : tie.Need-enum-known-from
 enum-known-from c = search needs
 
--- src/lib.rt:146:9
 enum-told-2 : tie.Need-enum-told-2
 enum-told-2 c = search needs
 
--- src/lib.rt:146:9
 returns-2 : tie.Need-returns-2
 returns-2 c = rw (fixed-chain, ← (c .before .before .before .before .before .before .spaced-number .ensures), c .before .before .before .before .g .given .1, ← (c .before .before .spaced-label .ensures), c .enum-told2 .given .1)
 
--- src/lib.rt:148:26
 byte-requires : tie.Need-byte-requires
 byte-requires c κs = search needs
 
--- src/lib.rt:148:18
 enum-known-next : tie.Need-enum-known-next
 enum-known-next c = search needs
 
--- src/lib.rt:149:9
 enum-told-3 : tie.Need-enum-told-3
 enum-told-3 c = search needs
 
--- src/lib.rt:149:9
 returns-3 : tie.Need-returns-3
 returns-3 c = rw (fixed-chain, ← (c .before .before .before .before .before .before .before .before .before .before .spaced-number .ensures), c .before .before .before .before .before .before .before .before .g .given .1, ← (c .before .before .before .before .before .before .spaced-label .ensures), c .before .before .before .before .from .given .1, ← (c .before .before .byte .ensures), c .enum-told3 .given .1)
 
--- src/lib.rt:139:1
 returns-4 : tie.Need-returns-4
 returns-4 c = rw (fixed-chain, ← (c .before .before .before .before .before .before .before .before .before .before .before .spaced-number .ensures), c .before .before .before .before .before .before .before .before .before .g .given .1, ← (c .before .before .before .before .before .before .before .spaced-label .ensures), c .before .before .before .before .before .from .given .1, ← (c .before .before .before .byte .ensures), c .before .next .given .1)
 

@@ -1,43 +1,33 @@
 -- `lines::head` meets its contract: the way to each return is the way through the line's chain of answers.
 use borrow.Author.Needs.{needs}
 use Rattle.lines.proofs.Chains.{head-chain}
-use borrow.Author.Needs.{needs}
 use Rattle.lines.proofs.head.Statement.{statement}
 use Rattle.lines.proofs.head.Tie as tie
 
--- src/lib.rt:60:42
 spaced-number-requires : tie.Need-spaced-number-requires
 spaced-number-requires c κs = search needs
 
--- src/lib.rt:60:29
 enum-known-losses : tie.Need-enum-known-losses
 enum-known-losses c = search needs
 
--- src/lib.rt:61:9
 enum-told : tie.Need-enum-told
 enum-told c = search needs
 
--- src/lib.rt:61:9
 returns : tie.Need-returns
 returns c = rw (head-chain, ← (c .before .before .spaced-number .ensures), c .enum-told .given .1)
 
--- src/lib.rt:63:26
 byte-requires : tie.Need-byte-requires
 byte-requires c κs = search needs
 
--- src/lib.rt:63:18
 enum-known-next : tie.Need-enum-known-next
 enum-known-next c = search needs
 
--- src/lib.rt:64:9
 enum-told-2 : tie.Need-enum-told-2
 enum-told-2 c = search needs
 
--- src/lib.rt:64:9
 returns-2 : tie.Need-returns-2
 returns-2 c = rw (head-chain, ← (c .before .before .before .before .before .before .spaced-number .ensures), c .before .before .before .before .losses .given .1, ← (c .before .before .byte .ensures), c .enum-told2 .given .1)
 
--- src/lib.rt:57:1
 returns-3 : tie.Need-returns-3
 returns-3 c = rw (head-chain, ← (c .before .before .before .before .before .before .before .spaced-number .ensures), c .before .before .before .before .before .losses .given .1, ← (c .before .before .before .byte .ensures), c .before .next .given .1)
 

@@ -1,9 +1,9 @@
 -- `members::lead_of` meets its contract: none of the deliveries passed is a member, and not all are passed.
 use mathlib.Core.Bool.{false}
-use mathlib.Core.Path.{_≡_}
+use mathlib.Core.Path.{_≡_, sym, _∙_}
 use Prim.Native.Nat.{ℕ, _-_, _≤_, _<_}
 use native.Mathlib.Omega.{arith}
-use borrow.Author.Tests.{eq-eqb, ne-eqb}
+use borrow.Author.Needs.{needs}
 use Rattle.laws.specs.Sums.{below-suc}
 use Rattle.members.specs.Leads.{lead-none}
 use Rattle.rules.specs.Hour.{member}
@@ -25,8 +25,11 @@ mul-x c = omega arith
 array-copy-out-x : tie.Need-array-copy-out-x Inv-loop μ-loop
 array-copy-out-x c = omega arith
 
+same-number-requires : tie.Need-same-number-requires Inv-loop μ-loop
+same-number-requires c κs = search needs
+
 returns : tie.Need-returns Inv-loop μ-loop
-returns c = record { within = omega arith; number = eq-eqb _ _ (c .if1 .taken); first = c .before .before .before .before .loop .inv .1 }
+returns c = let at-loop = c .before .before .before .before in record { within = omega arith; number = sym (c .before .same-number .ensures) ∙ c .if1 .taken; first = at-loop .loop .inv .1 }
 
 add-j : tie.Need-add-j Inv-loop μ-loop
 add-j c = omega arith
@@ -36,10 +39,11 @@ loop-less c = omega arith
 
 loop-again : tie.Need-loop-again Inv-loop μ-loop
 loop-again c =
-    let l = c .before .before .before .before .loop in (
+    let at-loop = c .before .before .before .before in
+    let a = at-loop .before .args in
+    let l = at-loop .loop in (
       omega arith,
-      λ k m. below-suc (λ k. member (c .before .before .before .before .before .args .t1) (c .before .before .before .before .before .args .number) k ≡ false) (l .j)
-          (l .inv .1) (ne-eqb _ _ (c .if1 .left)) k (omega arith),
+      λ k m. below-suc (λ k. member (a .t1) (a .number) k ≡ false) (l .j) (l .inv .1) (sym (c .before .same-number .ensures) ∙ c .if1 .left) k (omega arith),
     )
 
 returns-2 : tie.Need-returns-2 Inv-loop μ-loop
@@ -56,6 +60,7 @@ lead-of-spec =
     loop-holds
     mul-x
     array-copy-out-x
+    same-number-requires
     returns
     add-j
     loop-less

@@ -1,9 +1,9 @@
 -- `members::share_rows` meets its contract: the members among the deliveries passed have their rows.
 use mathlib.Core.Logic.{⊎-elim}
-use mathlib.Core.Path.{refl}
+use mathlib.Core.Path.{refl, sym, _∙_}
 use Prim.Native.Nat.{_+_, _-_, _*_, _≤_}
 use native.Mathlib.Omega.{arith}
-use borrow.Author.Tests.{eq-eqb, ne-eqb}
+use borrow.Author.Needs.{needs}
 use lib.ListN.{getD}
 use Rattle.members.specs.Live.{amountAt}
 use Rattle.members.specs.Members.{counted-small, Going, going-none, going-skip, going-fits, going-take, going-all}
@@ -21,13 +21,16 @@ abbrev μ-loop : tie.MeasureT-loop
 
 -- a member's row may be written
 fits : (c : tie.Then1 Inv-loop μ-loop) →
-    let a = c .before .before .before .before .before .before .before .before .before .before .before .args in
-    let l = c .before .before .before .before .before .loop in
+    let at-loop = c .before .before .before .before in
+    let a = at-loop .before .before .before .before .before .before .args in
+    let l = at-loop .loop in
     RowFits (l .j * (a .sources * 4)) (a .sources * 4) (a .total) (l .count + 1) (l .mwh + getD (a .mwhs .now) (l .j) 0)
     (amountAt (a .direct .now) (a .moved .now) (a .lead * 32)) (l .had) (l .cells)
 fits c =
-    let g = c .before .before .before .before .before .before .before .before .before .before .before .pre .2 in
-    going-fits _ _ _ _ _ _ _ _ g _ _ _ _ _ (c .before .before .before .before .loop-test .taken) (c .before .before .before .before .before .loop .inv .1) (eq-eqb _ _ (c .if1 .taken))
+    let in-loop = c .before .before .before in
+    let at-loop = in-loop .before in
+    let start = at-loop .before .before .before .before .before .before in
+    going-fits _ _ _ _ _ _ _ _ (start .pre .2) _ _ _ _ _ (in-loop .loop-test .taken) (at-loop .loop .inv .1) (sym (c .before .same-number .ensures) ∙ c .if1 .taken)
 
 mul-width : tie.Need-mul-width Inv-loop μ-loop
 mul-width c = omega arith
@@ -53,11 +56,14 @@ mul-x c = omega arith
 array-copy-out-x : tie.Need-array-copy-out-x Inv-loop μ-loop
 array-copy-out-x c = omega arith
 
+same-number-requires : tie.Need-same-number-requires Inv-loop μ-loop
+same-number-requires c κs = search needs
+
 add-count : tie.Need-add-count Inv-loop μ-loop
 add-count c =
-    let s = c .before .before .before .before .before .before .before .before .before .before .before in
-    let l = c .before .before .before .before .before .loop in
-    omega (arith, l .inv .1 .counts, counted-small (s .args .t5) (internalAt (s .args .t5) (s .args .lead)) (l .j), s .pre .2 .mwhs .few)
+    let at-loop = c .before .before .before .before in
+    let start = at-loop .before .before .before .before .before .before in
+    omega (arith, at-loop .loop .inv .1 .counts, counted-small (start .args .t5) (internalAt (start .args .t5) (start .args .lead)) (at-loop .loop .j), start .pre .2 .mwhs .few)
 
 mul-mwh : tie.Need-mul-mwh Inv-loop μ-loop
 mul-mwh c = omega arith
@@ -72,7 +78,10 @@ mul-share-row : tie.Need-mul-share-row Inv-loop μ-loop
 mul-share-row c = omega (arith, fits (c .before .before) .low)
 
 share-row-requires : tie.Need-share-row-requires Inv-loop μ-loop
-share-row-requires c κs = record { a = _; fits = fits (c .before .before .before .before .before .before); listed = c .before .before .before .before .before .before .before .before .before .before .before .before .before .list-live .ensures }
+share-row-requires c κs =
+    let at-member = c .before .before .before .before .before .before in
+    let at-loop = at-member .before .before .before .before in
+    record { a = _; fits = fits at-member; listed = at-loop .before .before .list-live .ensures }
 
 add-j : tie.Need-add-j Inv-loop μ-loop
 add-j c = omega arith
@@ -82,21 +91,26 @@ loop-less c = omega arith
 
 loop-again : tie.Need-loop-again Inv-loop μ-loop
 loop-again c =
-    let g = c .before .before .before .before .before .before .before .before .before .before .before .pre .2 in
-    let s = c .before .before .before .before .before .loop .inv .1 in
-    let listed = c .before .before .before .before .before .before .before .list-live .ensures in
+    let at-loop = c .before .before .before .before in
+    let listed = at-loop .before .before in
+    let g = listed .before .before .before .before .pre .2 in
+    let s = at-loop .loop .inv .1 in
+    let same = sym (c .before .same-number .ensures) in
     ⊎-elim
     (λ w.
-    let row = w .7 .ensures _ (fits (record { before = c .before; if1 = w .0 })) listed in
-    (omega arith, rw (w .9, w .10, w .11, w .12) (going-take _ _ _ _ _ _ _ _ g _ _ _ _ _ _ _ s (eq-eqb _ _ (w .0 .taken)) row)))
-    (λ w. (omega arith, rw (w .1, w .2, w .3, w .4) (going-skip _ _ _ _ _ _ _ _ g _ _ _ _ _ s (ne-eqb _ _ (w .0 .left)))))
+    let row = w .7 .ensures _ (fits (record { before = c .before; if1 = w .0 })) (listed .list-live .ensures) in
+    (omega arith, rw (w .9, w .10, w .11, w .12) (going-take _ _ _ _ _ _ _ _ g _ _ _ _ _ _ _ s (same ∙ w .0 .taken) row)))
+    (λ w. (omega arith, rw (w .1, w .2, w .3, w .4) (going-skip _ _ _ _ _ _ _ _ g _ _ _ _ _ s (same ∙ w .0 .left))))
     (c .if1 .came)
 
 same-length : tie.Need-same-length Inv-loop μ-loop
 same-length c = c .before .loop .inv .1 .long
 
 returns : tie.Need-returns Inv-loop μ-loop
-returns c = going-all _ _ _ _ _ _ _ _ (c .before .before .before .before .before .before .before .pre .2) _ _ _ _ _ (c .before .loop .inv .0) (c .loop-test .left) (c .before .loop .inv .1)
+returns c =
+    let at-loop = c .before in
+    let start = at-loop .before .before .before .before .before .before in
+    going-all _ _ _ _ _ _ _ _ (start .pre .2) _ _ _ _ _ (at-loop .loop .inv .0) (c .loop-test .left) (at-loop .loop .inv .1)
 
 pub share-rows-spec : {M : Type 1} → statement M
 share-rows-spec =
@@ -112,6 +126,7 @@ share-rows-spec =
     loop-holds
     mul-x
     array-copy-out-x
+    same-number-requires
     add-count
     mul-mwh
     element-copy-out-mwh

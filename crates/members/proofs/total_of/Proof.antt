@@ -1,9 +1,9 @@
 -- `members::total_of` meets its contract: the MWh of the members among the deliveries passed.
 use mathlib.Core.Logic.{⊎-elim}
-use mathlib.Core.Path.{_≡_, _∙_}
+use mathlib.Core.Path.{_≡_, sym, _∙_}
 use Prim.Native.Nat.{_-_, _≤_}
 use native.Mathlib.Omega.{arith}
-use borrow.Author.Tests.{eq-eqb, ne-eqb}
+use borrow.Author.Needs.{needs}
 use Rattle.laws.specs.Sums.{sumTo-none, sumTo-end}
 use Rattle.members.specs.Members.{scheduledIn, scheduled-small, scheduled-take, scheduled-skip}
 use Rattle.members.proofs.total_of.Statement.{statement}
@@ -24,38 +24,44 @@ mul-x c = omega (arith, c .before .before .pre .few)
 array-copy-out-x : tie.Need-array-copy-out-x Inv-loop μ-loop
 array-copy-out-x c = omega (arith, c .before .before .pre .few)
 
+same-number-requires : tie.Need-same-number-requires Inv-loop μ-loop
+same-number-requires c κs = search needs
+
 mul-sum : tie.Need-mul-sum Inv-loop μ-loop
-mul-sum c = omega (arith, c .before .before .before .before .before .pre .few)
+mul-sum c = let at-loop = c .before .before .before .before in omega (arith, at-loop .before .pre .few)
 
 element-copy-out-sum : tie.Need-element-copy-out-sum Inv-loop μ-loop
-element-copy-out-sum c = omega (arith, c .before .before .before .before .before .pre .few)
+element-copy-out-sum c = let at-loop = c .before .before .before .before in omega (arith, at-loop .before .pre .few)
 
 add-sum : tie.Need-add-sum Inv-loop μ-loop
 add-sum c =
-    let s = c .before .before .before .before .before .before in
-    let l = c .before .before .before .before .before .loop in
-    omega (arith, l .inv .1, scheduled-small (s .args .mwhs .now) (s .args .t3) (s .args .number) (s .args .n) (s .pre) (l .j) (l .inv .0), s .pre .few, s .pre .mwh (l .j) (omega arith))
+    let at-loop = c .before .before .before .before .before in
+    let start = at-loop .before in
+    let l = at-loop .loop in
+    omega (arith, l .inv .1, scheduled-small (start .args .mwhs .now) (start .args .t3) (start .args .number) (start .args .n) (start .pre) (l .j) (l .inv .0), start .pre .few, start .pre .mwh (l .j) (omega arith))
 
 add-j : tie.Need-add-j Inv-loop μ-loop
-add-j c = omega (arith, c .before .before .before .before .before .pre .few)
+add-j c = let at-loop = c .before .before .before .before in omega (arith, at-loop .before .pre .few)
 
 loop-less : tie.Need-loop-less Inv-loop μ-loop
 loop-less c = omega arith
 
 loop-again : tie.Need-loop-again Inv-loop μ-loop
 loop-again c =
-    let s = c .before .before .before .before .before .args in
-    let l = c .before .before .before .before .loop in
+    let at-loop = c .before .before .before .before in
+    let s = at-loop .before .args in
+    let l = at-loop .loop in
+    let same = sym (c .before .same-number .ensures) in
     ⊎-elim
-    (λ w. (omega arith, w .2 ∙ scheduled-take (s .mwhs .now) (s .t3) (s .number) (l .j) (l .sum) (eq-eqb _ _ (w .0 .taken)) (l .inv .1)))
-    (λ w. (omega arith, w .1 ∙ scheduled-skip (s .mwhs .now) (s .t3) (s .number) (l .j) (l .sum) (ne-eqb _ _ (w .0 .left)) (l .inv .1)))
+    (λ w. (omega arith, w .2 ∙ scheduled-take (s .mwhs .now) (s .t3) (s .number) (l .j) (l .sum) (same ∙ w .0 .taken) (l .inv .1)))
+    (λ w. (omega arith, w .1 ∙ scheduled-skip (s .mwhs .now) (s .t3) (s .number) (l .j) (l .sum) (same ∙ w .0 .left) (l .inv .1)))
     (c .if1 .came)
 
 returns : tie.Need-returns Inv-loop μ-loop
 returns c =
-    let s = c .before .before in
+    let start = c .before .before in
     let e = sumTo-end _ _ _ _ (c .before .loop .inv .0) (c .loop-test .left) (c .before .loop .inv .1) in
-    (e, omega (arith, e, scheduled-small (s .args .mwhs .now) (s .args .t3) (s .args .number) (s .args .n) (s .pre) (s .args .n) (omega arith), s .pre .few))
+    (e, omega (arith, e, scheduled-small (start .args .mwhs .now) (start .args .t3) (start .args .number) (start .args .n) (start .pre) (start .args .n) (omega arith), start .pre .few))
 
 pub total-of-spec : {M : Type 1} → statement M
 total-of-spec =
@@ -66,6 +72,7 @@ total-of-spec =
     loop-holds
     mul-x
     array-copy-out-x
+    same-number-requires
     mul-sum
     element-copy-out-sum
     add-sum

@@ -5,7 +5,7 @@ use Prim.Native.Nat.{ℕ, _+_}
 use native.Mathlib.Omega.{arith}
 use lib.ListN.{length}
 use Rattle.rules.specs.Reading.{reading}
-use Rattle.places.specs.Places.{labelStart, labelCode, sourcesOf}
+use Rattle.places.specs.Places.{labelStart, partStart, sourcesOf, placeCode}
 use Rattle.places.specs.Walk.{label-none, delivery-told, read-sources}
 use borrow.Author.Needs.{needs}
 use Rattle.places.proofs.delivery_place.Statement.{statement}
@@ -39,9 +39,10 @@ returns-2 : tie.Need-returns-2
 returns-2 c =
     let a = c .before .before .before .before .before .before .before .args in
     let x = c .before .before .before .read in
+    let d = c .before .before .before .before .before .delivery-label in
     c .label-place .ensures
-    ∙ ap (λ (m : ℕ). labelCode (labelStart (a .s .now) (m + a .j + 1)) (length (c .before .before .before .before .before .delivery-label .result .now))) (read-sources _ (x .result) (x .ensures))
-    ∙ ap (λ (p : List ℕ). labelCode (labelStart (a .s .now) (sourcesOf (reading (a .s .now)) + a .j + 1)) (length p)) (c .before .before .before .before .before .delivery-label .ensures)
+    ∙ ap (λ (m : ℕ). placeCode (partStart (labelStart (a .s .now) (m + a .j + 1)) (length (d .result .now))) (length (d .result .now))) (read-sources _ (x .result) (x .ensures))
+    ∙ ap (λ (p : List ℕ). placeCode (partStart (labelStart (a .s .now) (sourcesOf (reading (a .s .now)) + a .j + 1)) (length p)) (length p)) (d .ensures)
 
 pub delivery-place-spec : {M : Type 1} → statement M
 delivery-place-spec =

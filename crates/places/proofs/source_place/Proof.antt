@@ -4,7 +4,7 @@ use mathlib.Core.List.{List}
 use Prim.Native.Nat.{ℕ, _+_}
 use native.Mathlib.Omega.{arith}
 use lib.ListN.{length}
-use Rattle.places.specs.Places.{labelStart, labelCode}
+use Rattle.places.specs.Places.{labelStart, partStart, placeCode}
 use Rattle.places.specs.Walk.{label-none, source-told}
 use borrow.Author.Needs.{needs}
 use Rattle.places.proofs.source_place.Statement.{statement}
@@ -27,7 +27,7 @@ label-place-requires c κs = let x = source-told _ _ _ (c .if1 .left) (c .before
 returns-2 : tie.Need-returns-2
 returns-2 c =
     let a = c .before .before .before .before .args in
-    c .label-place .ensures ∙ ap (λ (p : List ℕ). labelCode (labelStart (a .s .now) (a .i + 1)) (length p)) (c .before .before .source-label .ensures)
+    c .label-place .ensures ∙ ap (λ (p : List ℕ). placeCode (partStart (labelStart (a .s .now) (a .i + 1)) (length p)) (length p)) (c .before .before .source-label .ensures)
 
 pub source-place-spec : {M : Type 1} → statement M
 source-place-spec =

@@ -10,11 +10,18 @@ use Rattle.put.proofs.put_source.Tie as tie
 enum-known-p : tie.Need-enum-known-p
 enum-known-p c = search needs
 
+unit-fields-requires : tie.Need-unit-fields-requires
+unit-fields-requires c κs = search needs
+
 slice-aggregate-put-entry : tie.Need-slice-aggregate-put-entry
 slice-aggregate-put-entry c = search needs
 
 put-entry-requires : tie.Need-put-entry-requires
-put-entry-requires c κs = room-as (unit-text (c .before .before .before .before .p .given .0 .0) (chars (c .before .before .before .before .before .before .before .before .args .x .label)) (c .before .before .before .before .p .given .1) []) (c .before .before .before .before .before .before .before .before .pre)
+put-entry-requires c κs =
+    let fields = c .before .before in
+    let plant = fields .before .before in
+    let start = plant .before .before .before .before in
+    rw (fields .unit-fields .ensures) (room-as (unit-text (plant .p .given .0 .0) (chars (start .args .x .label)) (plant .p .given .1) []) (start .pre))
 
 enum-known-p-2 : tie.Need-enum-known-p-2
 enum-known-p-2 c = search needs
@@ -40,7 +47,12 @@ same-length : tie.Need-same-length
 same-length c = search needs
 
 returns : tie.Need-returns
-returns c = inked-as (unit-text (c .before .before .before .before .before .before .before .p .given .0 .0) (chars (c .before .before .before .before .before .before .before .before .before .before .before .args .x .label)) (c .before .before .before .before .before .before .before .p .given .1)) (c .before .before .put-entry .ensures)
+returns c =
+    let entry = c .before .before in
+    let fields = entry .before .before .before in
+    let plant = fields .before .before in
+    let start = plant .before .before .before .before in
+    inked-as (unit-text (plant .p .given .0 .0) (chars (start .args .x .label)) (plant .p .given .1)) (rw (fields .unit-fields .ensures) at (entry .put-entry .ensures))
 
 same-length-2 : tie.Need-same-length-2
 same-length-2 c = search needs
@@ -61,6 +73,7 @@ put-source-spec =
     tie.close
     (tie.spec
     enum-known-p
+    unit-fields-requires
     slice-aggregate-put-entry
     put-entry-requires
     enum-known-p-2

@@ -7,48 +7,48 @@ use Rattle.ranges.specs.Inside as tests
 use Rattle.ranges.proofs.delivery_in_range.Statement.{statement}
 use Rattle.ranges.proofs.delivery_in_range.Tie as tie
 
-within-requires : tie.Need-within-requires
-within-requires c κs = search needs
+up-to-requires : tie.Need-up-to-requires
+up-to-requires c κs = search needs
 
 returns : tie.Need-returns
 unfolding lines.ranged tests.deliveryInside
-returns c = rw (sym (c .before .within .ensures) ∙ not-true _ (c .if1 .taken))
+returns c = rw (sym (c .before .up-to .ensures) ∙ not-true _ (c .if1 .taken))
+
+within-requires : tie.Need-within-requires
+within-requires c κs = search needs
+
+returns-2 : tie.Need-returns-2
+unfolding lines.ranged tests.deliveryInside
+returns-2 c = rw (sym (c .before .before .before .up-to .ensures) ∙ not-false _ (c .before .before .if1 .left), sym (c .before .within .ensures) ∙ not-true _ (c .if2 .taken))
 
 within-requires-2 : tie.Need-within-requires-2
 within-requires-2 c κs = search needs
 
-returns-2 : tie.Need-returns-2
-unfolding lines.ranged tests.deliveryInside
-returns-2 c = rw (sym (c .before .before .before .within .ensures) ∙ not-false _ (c .before .before .if1 .left), sym (c .before .within2 .ensures) ∙ not-true _ (c .if2 .taken))
-
-within-requires-3 : tie.Need-within-requires-3
-within-requires-3 c κs = search needs
-
 returns-3 : tie.Need-returns-3
 unfolding lines.ranged tests.deliveryInside
-returns-3 c = rw (sym (c .before .before .before .before .before .within .ensures) ∙ not-false _ (c .before .before .before .before .if1 .left), sym (c .before .before .before .within2 .ensures) ∙ not-false _ (c .before .before .if2 .left), sym (c .before .within3 .ensures) ∙ not-true _ (c .if3 .taken))
+returns-3 c = rw (sym (c .before .before .before .before .before .up-to .ensures) ∙ not-false _ (c .before .before .before .before .if1 .left), sym (c .before .before .before .within .ensures) ∙ not-false _ (c .before .before .if2 .left), sym (c .before .within2 .ensures) ∙ not-true _ (c .if3 .taken))
 
-within-requires-4 : tie.Need-within-requires-4
-within-requires-4 c κs = search needs
+up-to-requires-2 : tie.Need-up-to-requires-2
+up-to-requires-2 c κs = search needs
 
 returns-4 : tie.Need-returns-4
 unfolding lines.ranged tests.deliveryInside
-returns-4 c = rw (sym (c .before .before .before .before .before .before .before .within .ensures) ∙ not-false _ (c .before .before .before .before .before .before .if1 .left), sym (c .before .before .before .before .before .within2 .ensures) ∙ not-false _ (c .before .before .before .before .if2 .left), sym (c .before .before .before .within3 .ensures) ∙ not-false _ (c .before .before .if3 .left), sym (c .before .within4 .ensures) ∙ not-true _ (c .if4 .taken))
+returns-4 c = rw (sym (c .before .before .before .before .before .before .before .up-to .ensures) ∙ not-false _ (c .before .before .before .before .before .before .if1 .left), sym (c .before .before .before .before .before .within .ensures) ∙ not-false _ (c .before .before .before .before .if2 .left), sym (c .before .before .before .within2 .ensures) ∙ not-false _ (c .before .before .if3 .left), sym (c .before .up-to2 .ensures) ∙ not-true _ (c .if4 .taken))
 
 returns-5 : tie.Need-returns-5
 unfolding lines.ranged tests.deliveryInside
-returns-5 c = rw (sym (c .before .before .before .before .before .before .before .within .ensures) ∙ not-false _ (c .before .before .before .before .before .before .if1 .left), sym (c .before .before .before .before .before .within2 .ensures) ∙ not-false _ (c .before .before .before .before .if2 .left), sym (c .before .before .before .within3 .ensures) ∙ not-false _ (c .before .before .if3 .left), sym (c .before .within4 .ensures) ∙ not-false _ (c .if4 .left))
+returns-5 c = rw (sym (c .before .before .before .before .before .before .before .up-to .ensures) ∙ not-false _ (c .before .before .before .before .before .before .if1 .left), sym (c .before .before .before .before .before .within .ensures) ∙ not-false _ (c .before .before .before .before .if2 .left), sym (c .before .before .before .within2 .ensures) ∙ not-false _ (c .before .before .if3 .left), sym (c .before .up-to2 .ensures) ∙ not-false _ (c .if4 .left))
 
 pub delivery-in-range-spec : {M : Type 1} → statement M
 delivery-in-range-spec =
     tie.close
     (tie.spec
-    within-requires
+    up-to-requires
     returns
-    within-requires-2
+    within-requires
     returns-2
-    within-requires-3
+    within-requires-2
     returns-3
-    within-requires-4
+    up-to-requires-2
     returns-4
     returns-5)

@@ -7,24 +7,24 @@ use Rattle.ranges.specs.Inside as tests
 use Rattle.ranges.proofs.purchase_in_range.Statement.{statement}
 use Rattle.ranges.proofs.purchase_in_range.Tie as tie
 
-within-requires : tie.Need-within-requires
-within-requires c κs = search needs
+up-to-requires : tie.Need-up-to-requires
+up-to-requires c κs = search needs
 
 returns : tie.Need-returns
 unfolding lines.ranged tests.plantInside
-returns c = rw (sym (c .before .within .ensures) ∙ not-true _ (c .if1 .taken))
+returns c = rw (sym (c .before .up-to .ensures) ∙ not-true _ (c .if1 .taken))
 
-within-requires-2 : tie.Need-within-requires-2
-within-requires-2 c κs = search needs
+up-to-requires-2 : tie.Need-up-to-requires-2
+up-to-requires-2 c κs = search needs
 
 returns-2 : tie.Need-returns-2
 unfolding lines.ranged tests.plantInside
-returns-2 c = rw (sym (c .before .before .before .within .ensures) ∙ not-false _ (c .before .before .if1 .left), sym (c .before .within2 .ensures) ∙ not-true _ (c .if2 .taken))
+returns-2 c = rw (sym (c .before .before .before .up-to .ensures) ∙ not-false _ (c .before .before .if1 .left), sym (c .before .up-to2 .ensures) ∙ not-true _ (c .if2 .taken))
 
 returns-3 : tie.Need-returns-3
 unfolding lines.ranged tests.plantInside
-returns-3 c = rw (sym (c .before .before .before .within .ensures) ∙ not-false _ (c .before .before .if1 .left), sym (c .before .within2 .ensures) ∙ not-false _ (c .if2 .left))
+returns-3 c = rw (sym (c .before .before .before .up-to .ensures) ∙ not-false _ (c .before .before .if1 .left), sym (c .before .up-to2 .ensures) ∙ not-false _ (c .if2 .left))
 
 pub purchase-in-range-spec : {M : Type 1} → statement M
 purchase-in-range-spec =
-    tie.close (tie.spec within-requires returns within-requires-2 returns-2 returns-3)
+    tie.close (tie.spec up-to-requires returns up-to-requires-2 returns-2 returns-3)

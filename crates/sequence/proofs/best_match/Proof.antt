@@ -1,4 +1,4 @@
--- `sequence::best_match` meets its contract: what is found so far is the best match of the deliveries passed.
+-- What is found so far is the best match of the deliveries passed.
 use Prim.Native.Nat.{_-_, _≤_}
 use native.Mathlib.Omega.{arith}
 use borrow.Author.Needs.{needs}
@@ -7,34 +7,34 @@ use Rattle.sequence.proofs.best_match.Statement.{statement}
 use Rattle.sequence.proofs.best_match.Tie as tie
 
 abbrev Inv-loop : tie.InvT-loop
-Inv-loop kinds blocks inputs n greatest x found₀ i₀ found i = (i ≤ n) × Best kinds blocks inputs i greatest (sought x) found
+Inv-loop kinds blocks n greatest x own found₀ i₀ found i = (i ≤ n) × Best kinds blocks own i greatest (sought x) found
 
 abbrev μ-loop : tie.MeasureT-loop
-μ-loop kinds blocks inputs n greatest x found₀ i₀ found i = n - i
+μ-loop kinds blocks n greatest x own found₀ i₀ found i = n - i
 
 loop-holds : tie.Need-loop-holds Inv-loop μ-loop
 loop-holds c = (omega arith, best-none _ _ _ _ _)
 
-mul-input-if : tie.Need-mul-input-if Inv-loop μ-loop
-mul-input-if c = omega arith
+mul-y : tie.Need-mul-y Inv-loop μ-loop
+mul-y c = omega arith
 
-element-copy-out-input-if : tie.Need-element-copy-out-input-if Inv-loop μ-loop
-element-copy-out-input-if c = omega arith
+array-copy-out-y : tie.Need-array-copy-out-y Inv-loop μ-loop
+array-copy-out-y c = omega arith
 
-mul-input-if-2 : tie.Need-mul-input-if-2 Inv-loop μ-loop
-mul-input-if-2 c = omega arith
+mul-number-if : tie.Need-mul-number-if Inv-loop μ-loop
+mul-number-if c = omega arith
 
-element-copy-out-input-if-2 : tie.Need-element-copy-out-input-if-2 Inv-loop μ-loop
-element-copy-out-input-if-2 c = omega arith
+element-copy-out-number-if : tie.Need-element-copy-out-number-if Inv-loop μ-loop
+element-copy-out-number-if c = omega arith
 
-mul-input-if-3 : tie.Need-mul-input-if-3 Inv-loop μ-loop
-mul-input-if-3 c = omega arith
+mul-number-if-2 : tie.Need-mul-number-if-2 Inv-loop μ-loop
+mul-number-if-2 c = omega arith
 
-element-copy-out-input-if-3 : tie.Need-element-copy-out-input-if-3 Inv-loop μ-loop
-element-copy-out-input-if-3 c = omega arith
+element-copy-out-number-if-2 : tie.Need-element-copy-out-number-if-2 Inv-loop μ-loop
+element-copy-out-number-if-2 c = omega arith
 
-input-if-requires : tie.Need-input-if-requires Inv-loop μ-loop
-input-if-requires c κs = search needs
+number-if-requires : tie.Need-number-if-requires Inv-loop μ-loop
+number-if-requires c κs = search needs
 
 better-requires : tie.Need-better-requires Inv-loop μ-loop
 better-requires c κs = search needs
@@ -47,8 +47,9 @@ loop-less c = omega arith
 
 loop-again : tie.Need-loop-again Inv-loop μ-loop
 loop-again c =
-    let a = c .before .before .before .before .before .before in
-    (omega arith, best-more _ _ _ _ (a .before .args .x) (a .loop .i) _ _ _ (a .loop .inv .1) (a .before .pre .input (a .loop .i) (omega arith)) (c .before .input-if .ensures) (c .better .ensures))
+    let at-loop = c .before .before .before .before .before .before in
+    let i = at-loop .loop .i in
+    (omega arith, best-more _ _ _ _ (at-loop .before .args .x) i _ _ _ (at-loop .loop .inv .1) (at-loop .before .pre .number i (omega arith)) (c .before .number-if .ensures) (c .better .ensures))
 
 returns : tie.Need-returns Inv-loop μ-loop
 returns c = best-end _ _ _ _ _ _ _ _ (c .before .loop .inv .0) (c .loop-test .left) (c .before .loop .inv .1)
@@ -60,13 +61,13 @@ best-match-spec =
     Inv-loop
     μ-loop
     loop-holds
-    mul-input-if
-    element-copy-out-input-if
-    mul-input-if-2
-    element-copy-out-input-if-2
-    mul-input-if-3
-    element-copy-out-input-if-3
-    input-if-requires
+    mul-y
+    array-copy-out-y
+    mul-number-if
+    element-copy-out-number-if
+    mul-number-if-2
+    element-copy-out-number-if-2
+    number-if-requires
     better-requires
     add-i
     loop-less

@@ -1,27 +1,50 @@
 -- Where only one is a number, that one; else the greater or the lesser.
+use mathlib.Core.Path.{sym, _∙_}
 use borrow.Author.Needs.{needs}
-use borrow.Author.Tests.{eq-eqb, ne-eqb}
 use Rattle.sequence.proofs.better.Statement.{statement}
 use Rattle.sequence.proofs.better.Tie as tie
 
+is-none-requires : tie.Need-is-none-requires
+is-none-requires c κs = search needs
+
 returns : tie.Need-returns
-returns c = rw (eq-eqb _ _ (c .if1 .taken))
+returns c = rw (sym (c .before .is-none .ensures) ∙ c .if1 .taken)
+
+is-none-requires-2 : tie.Need-is-none-requires-2
+is-none-requires-2 c κs = search needs
 
 returns-2 : tie.Need-returns-2
-returns-2 c = rw (ne-eqb _ _ (c .before .if1 .left), eq-eqb _ _ (c .if2 .taken))
+returns-2 c =
+    let at-first = c .before .before in
+    rw (sym (at-first .before .is-none .ensures) ∙ at-first .if1 .left, sym (c .before .is-none2 .ensures) ∙ c .if2 .taken)
 
 greater-requires : tie.Need-greater-requires
 greater-requires c κs = search needs
 
 returns-3 : tie.Need-returns-3
-returns-3 c = rw (ne-eqb _ _ (c .before .before .before .if1 .left), ne-eqb _ _ (c .before .before .if2 .left), c .before .if3 .taken) (c .greater .ensures)
+returns-3 c =
+    let at-second = c .before .before in
+    let at-first = at-second .before .before in
+    rw (sym (at-first .before .is-none .ensures) ∙ at-first .if1 .left, sym (at-second .before .is-none2 .ensures) ∙ at-second .if2 .left, c .before .if3 .taken) (c .greater .ensures)
 
 lesser-requires : tie.Need-lesser-requires
 lesser-requires c κs = search needs
 
 returns-4 : tie.Need-returns-4
-returns-4 c = rw (ne-eqb _ _ (c .before .before .before .if1 .left), ne-eqb _ _ (c .before .before .if2 .left), c .before .if3 .left) (c .lesser .ensures)
+returns-4 c =
+    let at-second = c .before .before in
+    let at-first = at-second .before .before in
+    rw (sym (at-first .before .is-none .ensures) ∙ at-first .if1 .left, sym (at-second .before .is-none2 .ensures) ∙ at-second .if2 .left, c .before .if3 .left) (c .lesser .ensures)
 
 pub better-spec : {M : Type 1} → statement M
 better-spec =
-    tie.close (tie.spec returns returns-2 greater-requires returns-3 lesser-requires returns-4)
+    tie.close
+    (tie.spec
+    is-none-requires
+    returns
+    is-none-requires-2
+    returns-2
+    greater-requires
+    returns-3
+    lesser-requires
+    returns-4)

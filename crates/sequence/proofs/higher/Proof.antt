@@ -1,20 +1,28 @@
--- `sequence::higher` meets its contract: one case of `above` a way.
+-- By what `is_below` and `is_beaten` say.
+use mathlib.Core.Path.{sym, _∙_}
+use borrow.Author.Tests.{not-true, not-false}
 use borrow.Author.Needs.{needs}
-use Rattle.sequence.specs.HighestNumber.{above-none, above-less, above-more}
 use Rattle.sequence.proofs.higher.Statement.{statement}
 use Rattle.sequence.proofs.higher.Tie as tie
 
+is-below-requires : tie.Need-is-below-requires
+is-below-requires c κs = search needs
+
 returns : tie.Need-returns
-returns c = above-none _ _ _ (c .if1 .taken)
+returns c = rw (sym (c .before .is-below .ensures) ∙ not-true _ (c .if1 .taken))
+
+is-beaten-requires : tie.Need-is-beaten-requires
+is-beaten-requires c κs = search needs
 
 returns-2 : tie.Need-returns-2
-returns-2 c = above-less _ _ _ (c .before .if1 .left) (c .if2 .taken)
-
-add-result : tie.Need-add-result
-add-result c = search needs
+returns-2 c =
+    let at-first = c .before .before in
+    rw (sym (at-first .before .is-below .ensures) ∙ not-false _ (at-first .if1 .left), sym (c .before .is-beaten .ensures) ∙ not-true _ (c .if2 .taken))
 
 returns-3 : tie.Need-returns-3
-returns-3 c = above-more _ _ _ (c .before .if1 .left) (c .if2 .left)
+returns-3 c =
+    let at-first = c .before .before in
+    rw (sym (at-first .before .is-below .ensures) ∙ not-false _ (at-first .if1 .left), sym (c .before .is-beaten .ensures) ∙ not-false _ (c .if2 .left))
 
 pub higher-spec : {M : Type 1} → statement M
-higher-spec = tie.close (tie.spec returns returns-2 add-result returns-3)
+higher-spec = tie.close (tie.spec is-below-requires returns is-beaten-requires returns-2 returns-3)

@@ -9,13 +9,13 @@ returns : tie.Need-returns
 returns c = under-skipped (c .before .args .kind) (c .before .args .block) (c .if1 .taken)
 
 sub-t9 : tie.Need-sub-t9
-sub-t9 c = omega arith
+sub-t9 c = search needs
 
 best-match-requires : tie.Need-best-match-requires
 best-match-requires c κs = search needs
 
 returns-2 : tie.Need-returns-2
-returns-2 c = under-block (c .before .before .args .kind) (c .before .before .args .block) (omega arith) (c .best-match .ensures)
+returns-2 c = let start = c .before .before in under-block (start .args .kind) (start .args .block) (omega arith) (c .best-match .ensures)
 
 pub match-under-spec : {M : Type 1} → statement M
 match-under-spec = tie.close (tie.spec returns sub-t9 best-match-requires returns-2)

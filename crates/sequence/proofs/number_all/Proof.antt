@@ -11,10 +11,10 @@ use Rattle.sequence.proofs.number_all.Statement.{statement}
 use Rattle.sequence.proofs.number_all.Tie as tie
 
 abbrev Inv-loop : tie.InvT-loop
-Inv-loop kinds blocks inputs n placed₀ j₀ placed j = (j ≤ n) × ((ts : List Delivery) → Columns ts n kinds blocks inputs → placed ≡ placingsTo ts n j)
+Inv-loop kinds blocks own n placed₀ j₀ placed j = (j ≤ n) × ((ts : List Delivery) → Columns ts n kinds blocks own → placed ≡ placingsTo ts n j)
 
 abbrev μ-loop : tie.MeasureT-loop
-μ-loop kinds blocks inputs n placed₀ j₀ placed j = n - j
+μ-loop kinds blocks own n placed₀ j₀ placed j = n - j
 
 loop-holds : tie.Need-loop-holds Inv-loop μ-loop
 loop-holds c = (omega arith, λ ts t. placings-none ts _)
@@ -36,8 +36,8 @@ loop-less c = omega arith
 
 loop-again : tie.Need-loop-again Inv-loop μ-loop
 loop-again c =
-    let a = c .before .before in
-    (omega arith, λ ts t. placings-more ts _ (a .loop .j) _ _ (t .long) (omega arith) (a .loop .inv .1 ts t) (c .number .ensures ts t))
+    let at-loop = c .before .before in
+    (omega arith, λ ts t. placings-more ts _ (at-loop .loop .j) _ _ (t .long) (omega arith) (at-loop .loop .inv .1 ts t) (c .number .ensures ts t))
 
 returns : tie.Need-returns Inv-loop μ-loop
 returns c = λ ts t. placings-end ts _ (c .before .loop .j) _ (c .before .loop .inv .0) (c .loop-test .left) (c .before .loop .inv .1 ts t)

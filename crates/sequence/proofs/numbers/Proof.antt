@@ -7,10 +7,10 @@ use Rattle.sequence.proofs.numbers.Statement.{statement}
 use Rattle.sequence.proofs.numbers.Tie as tie
 
 abbrev Inv-loop : tie.InvT-loop
-Inv-loop n ts kinds₀ blocks₀ inputs₀ i₀ kinds blocks inputs i = (i ≤ n) × Columns ts i kinds blocks inputs
+Inv-loop n ts kinds₀ blocks₀ own₀ i₀ kinds blocks own i = (i ≤ n) × Columns ts i kinds blocks own
 
 abbrev μ-loop : tie.MeasureT-loop
-μ-loop n ts kinds₀ blocks₀ inputs₀ i₀ kinds blocks inputs i = n - i
+μ-loop n ts kinds₀ blocks₀ own₀ i₀ kinds blocks own i = n - i
 
 loop-holds : tie.Need-loop-holds Inv-loop μ-loop
 loop-holds c = (omega arith, columns-none (search needs))
@@ -33,11 +33,14 @@ mul-blocks c = omega arith
 array-write-blocks : tie.Need-array-write-blocks Inv-loop μ-loop
 array-write-blocks c = omega arith
 
-mul-inputs : tie.Need-mul-inputs Inv-loop μ-loop
-mul-inputs c = omega arith
+times-ten-requires : tie.Need-times-ten-requires Inv-loop μ-loop
+times-ten-requires c κs = let at-loop = c .before .before .before in at-loop .before .pre .sequence (at-loop .loop .i) (omega arith)
 
-array-write-inputs : tie.Need-array-write-inputs Inv-loop μ-loop
-array-write-inputs c = omega arith
+mul-own : tie.Need-mul-own Inv-loop μ-loop
+mul-own c = omega arith
+
+array-set-from-own : tie.Need-array-set-from-own Inv-loop μ-loop
+array-set-from-own c = omega arith
 
 add-i : tie.Need-add-i Inv-loop μ-loop
 add-i c = omega arith
@@ -46,17 +49,18 @@ loop-less : tie.Need-loop-less Inv-loop μ-loop
 loop-less c = omega arith
 
 loop-again : tie.Need-loop-again Inv-loop μ-loop
-loop-again c = (omega arith, columns-more (c .before .before .before .loop .inv .1) (omega arith))
+loop-again c = (omega arith, columns-more (c .before .before .before .before .loop .inv .1) (omega arith) (c .times-ten .ensures))
 
 number-all-requires : tie.Need-number-all-requires Inv-loop μ-loop
 number-all-requires c κs =
-    let a = c .before .before .before in
-    columns-ranged (columns-less (a .before .loop .inv .1) (a .before .before .args .n) (a .loop-test .left)) (a .before .before .pre)
+    let at-end = c .before .before in
+    let start = at-end .before .before in
+    columns-ranged (columns-less (at-end .before .loop .inv .1) (start .args .n) (at-end .loop-test .left)) (start .pre)
 
 returns : tie.Need-returns Inv-loop μ-loop
 returns c =
-    let a = c .before .before .before .before in
-    c .number-all .ensures _ (columns-less (a .before .loop .inv .1) (a .before .before .args .n) (a .loop-test .left))
+    let at-end = c .before .before .before in
+    c .number-all .ensures _ (columns-less (at-end .before .loop .inv .1) (at-end .before .before .args .n) (at-end .loop-test .left))
 
 pub numbers-spec : {M : Type 1} → statement M
 numbers-spec =
@@ -71,8 +75,9 @@ numbers-spec =
     array-write-kinds
     mul-blocks
     array-write-blocks
-    mul-inputs
-    array-write-inputs
+    times-ten-requires
+    mul-own
+    array-set-from-own
     add-i
     loop-less
     loop-again

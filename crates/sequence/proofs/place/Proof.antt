@@ -1,101 +1,160 @@
--- `sequence::place` meets its contract: the first rule with a match, those before it having none.
+-- The first rule with a match, those before it having none.
+use mathlib.Core.Path.{sym, _∙_}
 use native.Mathlib.Omega.{arith}
 use borrow.Author.Needs.{needs}
-use Rattle.sequence.specs.RuleByRule.{no-match, place-a, place-b, place-c, place-d, place-e, place-none}
+use borrow.Author.Tests.{not-true, not-false}
+use Rattle.rules.specs.Hour.{noNumber}
+use Rattle.sequence.specs.Columns.{no-match, match-steps}
+use Rattle.sequence.specs.RuleByRule.{SameBlock, NextBlock, BlockUnder, SameType, Anything, place-a, place-b, place-c, place-d, place-e, place-none}
 use Rattle.sequence.proofs.place.Statement.{statement}
 use Rattle.sequence.proofs.place.Tie as tie
 
+-- Past each rule: where it starts, and that it has no match.
+
+abbrev past-a : tie.Else1 → tie.Start
+past-a c = c .before .before .before .before .before
+
+no-a : (c : tie.Else1) → let s = past-a c .args in SameBlock (s .kinds .now) (s .blocks .now) (s .own) (s .n) (s .j) noNumber
+no-a c = no-match (sym (c .before .is-none .ensures) ∙ not-false _ (c .if1 .left)) (c .before .before .best-match .ensures)
+
+abbrev past-b : tie.Else2 → tie.Start
+past-b c = past-a (c .before .before .before)
+
+no-b : (c : tie.Else2) → let s = past-b c .args in NextBlock (s .kinds .now) (s .blocks .now) (s .own) (s .n) (s .j) noNumber
+no-b c = no-match (sym (c .before .is-none2 .ensures) ∙ not-false _ (c .if2 .left)) (c .before .before .best-match2 .ensures)
+
+abbrev past-c : tie.Else3 → tie.Start
+past-c c = past-b (c .before .before .before)
+
+no-c : (c : tie.Else3) → let s = past-c c .args in BlockUnder (s .kinds .now) (s .blocks .now) (s .own) (s .n) (s .j) noNumber
+no-c c = no-match (sym (c .before .is-none3 .ensures) ∙ not-false _ (c .if3 .left)) (c .before .before .match-under .ensures)
+
+abbrev past-d : tie.Else4 → tie.Start
+past-d c = past-c (c .before .before .before)
+
+no-d : (c : tie.Else4) → let s = past-d c .args in SameType (s .kinds .now) (s .blocks .now) (s .own) (s .n) (s .j) noNumber
+no-d c = no-match (sym (c .before .is-none4 .ensures) ∙ not-false _ (c .if4 .left)) (c .before .before .best-match3 .ensures)
+
+abbrev past-e : tie.Else5 → tie.Start
+past-e c = past-d (c .before .before .before)
+
+no-e : (c : tie.Else5) → let s = past-e c .args in Anything (s .kinds .now) (s .blocks .now) (s .own) (s .n) (s .j) noNumber
+no-e c = no-match (sym (c .before .is-none5 .ensures) ∙ not-false _ (c .if5 .left)) (c .before .before .best-match4 .ensures)
+
 mul-kind : tie.Need-mul-kind
-mul-kind c = omega arith
+mul-kind c = search needs
 
 element-copy-out-kind : tie.Need-element-copy-out-kind
-element-copy-out-kind c = omega arith
+element-copy-out-kind c = search needs
 
 mul-block : tie.Need-mul-block
-mul-block c = omega arith
+mul-block c = search needs
 
 element-copy-out-block : tie.Need-element-copy-out-block
-element-copy-out-block c = omega arith
+element-copy-out-block c = search needs
 
 best-match-requires : tie.Need-best-match-requires
 best-match-requires c κs = search needs
 
-mul-t22 : tie.Need-mul-t22
-mul-t22 c = omega arith
+is-none-requires : tie.Need-is-none-requires
+is-none-requires c κs = search needs
 
-sub-t23 : tie.Need-sub-t23
-sub-t23 c = omega arith
+one-before-requires : tie.Need-one-before-requires
+one-before-requires c κs = match-steps (sym (c .before .is-none .ensures) ∙ not-true _ (c .if1 .taken)) (c .before .before .best-match .ensures)
 
 returns : tie.Need-returns
 returns c =
-    let start = c .before .before .before .before in
-    place-a _ _ _ _ (start .args .j) (start .pre .1) (c .before .best-match .ensures) (c .if1 .taken)
+    let at-test = c .before in
+    let at-match = at-test .before .before in
+    let start = at-match .before .before .before in
+    place-a _ _ _ _ (start .args .j) (start .pre .1) (sym (at-test .before .is-none .ensures) ∙ not-true _ (at-test .if1 .taken)) (at-match .best-match .ensures) (c .one-before .ensures)
 
 add-t18 : tie.Need-add-t18
-add-t18 c =
-    let start = c .before .before .before .before in
-    omega (arith, start .pre .0 .block (start .args .j) (start .pre .1))
+add-t18 c = let start = past-a c in omega (arith, start .pre .0 .block (start .args .j) (start .pre .1))
 
 best-match-requires-2 : tie.Need-best-match-requires-2
 best-match-requires-2 c κs = search needs
 
-mul-t24 : tie.Need-mul-t24
-mul-t24 c = omega arith
+is-none-requires-2 : tie.Need-is-none-requires-2
+is-none-requires-2 c κs = search needs
 
-sub-t25 : tie.Need-sub-t25
-sub-t25 c = omega arith
+one-before-requires-2 : tie.Need-one-before-requires-2
+one-before-requires-2 c κs = match-steps (sym (c .before .is-none2 .ensures) ∙ not-true _ (c .if2 .taken)) (c .before .before .best-match2 .ensures)
 
 returns-2 : tie.Need-returns-2
 returns-2 c =
-    let start = c .before .before .before .before .before .before in
-    place-b _ _ _ _ (start .args .j) (start .pre .1) (no-match (c .before .before .if1 .left) (c .before .before .before .best-match .ensures)) (c .before .best-match2 .ensures) (c .if2 .taken)
+    let at-test = c .before in
+    let at-match = at-test .before .before in
+    let at-a = at-match .before in
+    let start = past-a at-a in
+    place-b _ _ _ _ (start .args .j) (start .pre .1) (sym (at-test .before .is-none2 .ensures) ∙ not-true _ (at-test .if2 .taken)) (no-a at-a) (at-match .best-match2 .ensures) (c .one-before2 .ensures)
 
 match-under-requires : tie.Need-match-under-requires
 match-under-requires c κs = search needs
 
-mul-t26 : tie.Need-mul-t26
-mul-t26 c = omega arith
+is-none-requires-3 : tie.Need-is-none-requires-3
+is-none-requires-3 c κs = search needs
 
-add-t27 : tie.Need-add-t27
-add-t27 c = omega arith
+one-after-requires : tie.Need-one-after-requires
+one-after-requires c κs = match-steps (sym (c .before .is-none3 .ensures) ∙ not-true _ (c .if3 .taken)) (c .before .before .match-under .ensures)
 
 returns-3 : tie.Need-returns-3
 returns-3 c =
-    let start = c .before .before .before .before .before .before .before .before in
-    place-c _ _ _ _ (start .args .j) (start .pre .1) (no-match (c .before .before .before .before .if1 .left) (c .before .before .before .before .before .best-match .ensures)) (no-match (c .before .before .if2 .left) (c .before .before .before .best-match2 .ensures)) (c .before .match-under .ensures) (c .if3 .taken)
+    let at-test = c .before in
+    let at-match = at-test .before .before in
+    let at-b = at-match .before in
+    let at-a = at-b .before .before .before in
+    let start = past-a at-a in
+    place-c _ _ _ _ (start .args .j) (start .pre .1) (sym (at-test .before .is-none3 .ensures) ∙ not-true _ (at-test .if3 .taken)) (no-a at-a) (no-b at-b) (at-match .match-under .ensures) (c .one-after .ensures)
 
 best-match-requires-3 : tie.Need-best-match-requires-3
 best-match-requires-3 c κs = search needs
 
-mul-t29 : tie.Need-mul-t29
-mul-t29 c = omega arith
+is-none-requires-4 : tie.Need-is-none-requires-4
+is-none-requires-4 c κs = search needs
 
-sub-t30 : tie.Need-sub-t30
-sub-t30 c = omega arith
+one-before-requires-3 : tie.Need-one-before-requires-3
+one-before-requires-3 c κs = match-steps (sym (c .before .is-none4 .ensures) ∙ not-true _ (c .if4 .taken)) (c .before .before .best-match3 .ensures)
 
 returns-4 : tie.Need-returns-4
 returns-4 c =
-    let start = c .before .before .before .before .before .before .before .before .before .before in
-    place-d _ _ _ _ (start .args .j) (start .pre .1) (no-match (c .before .before .before .before .before .before .if1 .left) (c .before .before .before .before .before .before .before .best-match .ensures)) (no-match (c .before .before .before .before .if2 .left) (c .before .before .before .before .before .best-match2 .ensures)) (no-match (c .before .before .if3 .left) (c .before .before .before .match-under .ensures)) (c .before .best-match3 .ensures) (c .if4 .taken)
+    let at-test = c .before in
+    let at-match = at-test .before .before in
+    let at-c = at-match .before in
+    let at-b = at-c .before .before .before in
+    let at-a = at-b .before .before .before in
+    let start = past-a at-a in
+    place-d _ _ _ _ (start .args .j) (start .pre .1) (sym (at-test .before .is-none4 .ensures) ∙ not-true _ (at-test .if4 .taken)) (no-a at-a) (no-b at-b) (no-c at-c) (at-match .best-match3 .ensures) (c .one-before3 .ensures)
 
 best-match-requires-4 : tie.Need-best-match-requires-4
 best-match-requires-4 c κs = search needs
 
-mul-t31 : tie.Need-mul-t31
-mul-t31 c = omega arith
+is-none-requires-5 : tie.Need-is-none-requires-5
+is-none-requires-5 c κs = search needs
 
-sub-t32 : tie.Need-sub-t32
-sub-t32 c = omega arith
+one-before-requires-4 : tie.Need-one-before-requires-4
+one-before-requires-4 c κs = match-steps (sym (c .before .is-none5 .ensures) ∙ not-true _ (c .if5 .taken)) (c .before .before .best-match4 .ensures)
 
 returns-5 : tie.Need-returns-5
 returns-5 c =
-    let start = c .before .before .before .before .before .before .before .before .before .before .before .before in
-    place-e _ _ _ _ (start .args .j) (start .pre .1) (no-match (c .before .before .before .before .before .before .before .before .if1 .left) (c .before .before .before .before .before .before .before .before .before .best-match .ensures)) (no-match (c .before .before .before .before .before .before .if2 .left) (c .before .before .before .before .before .before .before .best-match2 .ensures)) (no-match (c .before .before .before .before .if3 .left) (c .before .before .before .before .before .match-under .ensures)) (no-match (c .before .before .if4 .left) (c .before .before .before .best-match3 .ensures)) (c .before .best-match4 .ensures) (c .if5 .taken)
+    let at-test = c .before in
+    let at-match = at-test .before .before in
+    let at-d = at-match .before in
+    let at-c = at-d .before .before .before in
+    let at-b = at-c .before .before .before in
+    let at-a = at-b .before .before .before in
+    let start = past-a at-a in
+    place-e _ _ _ _ (start .args .j) (start .pre .1) (sym (at-test .before .is-none5 .ensures) ∙ not-true _ (at-test .if5 .taken)) (no-a at-a) (no-b at-b) (no-c at-c) (no-d at-d) (at-match .best-match4 .ensures) (c .one-before4 .ensures)
 
 returns-6 : tie.Need-returns-6
 returns-6 c =
-    let start = c .before .before .before .before .before .before .before .before .before .before .before .before in
-    place-none _ _ _ _ (start .args .j) (start .pre .1) (no-match (c .before .before .before .before .before .before .before .before .if1 .left) (c .before .before .before .before .before .before .before .before .before .best-match .ensures)) (no-match (c .before .before .before .before .before .before .if2 .left) (c .before .before .before .before .before .before .before .best-match2 .ensures)) (no-match (c .before .before .before .before .if3 .left) (c .before .before .before .before .before .match-under .ensures)) (no-match (c .before .before .if4 .left) (c .before .before .before .best-match3 .ensures)) (no-match (c .if5 .left) (c .before .best-match4 .ensures))
+    let at-e = c in
+    let at-d = at-e .before .before .before in
+    let at-c = at-d .before .before .before in
+    let at-b = at-c .before .before .before in
+    let at-a = at-b .before .before .before in
+    let start = past-a at-a in
+    place-none _ _ _ _ (start .args .j) (start .pre .1) (no-a at-a) (no-b at-b) (no-c at-c) (no-d at-d) (no-e at-e)
 
 pub place-spec : {M : Type 1} → statement M
 place-spec =
@@ -106,24 +165,24 @@ place-spec =
     mul-block
     element-copy-out-block
     best-match-requires
-    mul-t22
-    sub-t23
+    is-none-requires
+    one-before-requires
     returns
     add-t18
     best-match-requires-2
-    mul-t24
-    sub-t25
+    is-none-requires-2
+    one-before-requires-2
     returns-2
     match-under-requires
-    mul-t26
-    add-t27
+    is-none-requires-3
+    one-after-requires
     returns-3
     best-match-requires-3
-    mul-t29
-    sub-t30
+    is-none-requires-4
+    one-before-requires-3
     returns-4
     best-match-requires-4
-    mul-t31
-    sub-t32
+    is-none-requires-5
+    one-before-requires-4
     returns-5
     returns-6)

@@ -17,7 +17,7 @@ put-spaced-requires : tie.Need-put-spaced-requires
 put-spaced-requires c κs =
     let delivery = c .before .before .before in
     let s = delivery .before .before .before .before .before in
-    room-first (front-spaced (s .args .number)) (room-after (delivery .put-part .ensures) (room-as (pair-held (s .args .delivery .now) (s .args .number) (s .args .source .now) (s .fits .direct) (s .fits .incremental) (s .fits .cost) []) (s .pre)))
+    room-first (front-spaced (s .args .number .0)) (room-after (delivery .put-part .ensures) (room-as (pair-held (s .args .delivery .now) (s .args .number) (s .args .source .now) (s .fits .direct) (s .fits .incremental) (s .fits .cost) []) (s .pre)))
 
 put-byte-requires : tie.Need-put-byte-requires
 put-byte-requires c κs =

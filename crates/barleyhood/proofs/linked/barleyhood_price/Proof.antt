@@ -14,8 +14,8 @@ enum-told c = search needs
 price-requires : tie.Need-price-requires
 price-requires c κs = search needs
 
-cells-code-requires : tie.Need-cells-code-requires
-cells-code-requires c κs = search needs
+written-code-requires : tie.Need-written-code-requires
+written-code-requires c κs = search needs
 
 enum-known-v : tie.Need-enum-known-v
 enum-known-v c = search needs
@@ -28,7 +28,7 @@ same-length c = search needs
 
 returns : tie.Need-returns
 returns c = let x = c .before .before .price in
-    cells-told _ (c .before .before .before .before .before .before .before .read .result) (c .before .before .before .before .before .before .before .read .ensures) (c .before .before .before .before .enum-told .given .1) _ (x .result) _ (c .before .before .before .before .before .before .before .before .before .args .out .now) _ (x .ensures .0) (c .cells-code .ensures) (x .ensures .1)
+    cells-told _ (c .before .before .before .before .before .before .before .read .result) (c .before .before .before .before .before .before .before .read .ensures) (c .before .before .before .before .enum-told .given .1) _ (x .result) _ (c .before .before .before .before .before .before .before .before .before .args .out .now) _ (x .ensures .0) (c .written-code .ensures) (x .ensures .1)
 
 returns-2 : tie.Need-returns-2
 returns-2 c = let x = cells-refused _ (c .before .before .before .before .before .read .result) (c .before .before .before .before .before .read .ensures) _ (c .before .before .v .given .1) _ (c .before .before .before .before .before .before .before .args .out .now) in
@@ -36,4 +36,4 @@ returns-2 c = let x = cells-refused _ (c .before .before .before .before .before
 
 pub barleyhood-price-spec : {M : Type 1} → statement M
 barleyhood-price-spec =
-    tie.close (tie.spec read-requires enum-told price-requires cells-code-requires enum-known-v code-of-requires same-length returns returns-2)
+    tie.close (tie.spec read-requires enum-told price-requires written-code-requires enum-known-v code-of-requires same-length returns returns-2)

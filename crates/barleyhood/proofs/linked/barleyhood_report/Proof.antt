@@ -1,6 +1,9 @@
--- What is printed tells the count, or that the buffer is too short.
-use mathlib.Core.Path.{_∙_}
-use Rattle.barleyhood.specs.Told.{bytes-told, short-told}
+-- The code of what was written.
+use mathlib.Core.Path.{ap, _∙_}
+use lib.ListN.{length}
+use Rattle.rules.specs.Calls.{reporting}
+use Rattle.barleyhood.specs.Linked.{answerCode}
+use Rattle.barleyhood.specs.Told.{answer-code}
 use borrow.Author.Needs.{needs}
 use Rattle.barleyhood.proofs.linked.barleyhood_report.Statement.{statement}
 use Rattle.barleyhood.proofs.linked.barleyhood_report.Tie as tie
@@ -8,27 +11,17 @@ use Rattle.barleyhood.proofs.linked.barleyhood_report.Tie as tie
 report-requires : tie.Need-report-requires
 report-requires c κs = search needs
 
-enum-known-n : tie.Need-enum-known-n
-enum-known-n c = search needs
-
-enum-told : tie.Need-enum-told
-enum-told c = search needs
-
-code-of-requires : tie.Need-code-of-requires
-code-of-requires c κs = search needs
+written-code-requires : tie.Need-written-code-requires
+written-code-requires c κs = search needs
 
 same-length : tie.Need-same-length
 same-length c = search needs
 
 returns : tie.Need-returns
-returns c = let x = c .before .before .before .before .before .report in (bytes-told _ _ (x .result) (x .ensures .0) _ (c .before .n .given .1), x .ensures .1)
-
-same-length-2 : tie.Need-same-length-2
-same-length-2 c = search needs
-
-returns-2 : tie.Need-returns-2
-returns-2 c = let x = c .before .before .before .before .before .report in (c .code-of .ensures ∙ short-told _ _ (x .result) (x .ensures .0) (c .before .enum-told .given .1), x .ensures .1)
+returns c =
+    let at-report = c .before .before .before in
+    let start = at-report .before .before .before .before in
+    (c .written-code .ensures ∙ ap answerCode (at-report .report .ensures .0) ∙ answer-code (reporting (start .args .s .now) (length (start .args .out .now))), at-report .report .ensures .1)
 
 pub barleyhood-report-spec : {M : Type 1} → statement M
-barleyhood-report-spec =
-    tie.close (tie.spec report-requires enum-known-n enum-told code-of-requires same-length returns same-length-2 returns-2)
+barleyhood-report-spec = tie.close (tie.spec report-requires written-code-requires same-length returns)

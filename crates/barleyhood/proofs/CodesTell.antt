@@ -1,0 +1,123 @@
+-- The one number that a function for C gives back tells what the call came to. Below 2^32 it was accepted; from there on the number over 2^32 is the
+-- refusal's number, and what is left its place. Of a label, the number over 2^32 is where its bytes start, and what is left how many they are.
+use mathlib.Core.Bool.{Bool, true, false}
+use mathlib.Core.List.{List}
+use mathlib.Core.Path.{_≡_, refl, ap, _∙_}
+use Prim.Native.Nat.{ℕ, _+_, _*_, _/_, _%_, _<_, _≤_}
+use native.Mathlib.Decide.{decLt}
+use native.Mathlib.Omega.{arith}
+use lib.Dec.{ltb}
+use lib.IntN.{ℤ}
+use lib.ListN.{length}
+use Rattle.rules.specs.Calls as calls
+use Rattle.rules.specs.Calls.{reconstruction, reporting, sourcePart, deliveryPart}
+use Rattle.rules.specs.Reading.{reading}
+use Rattle.rules.specs.Refusals.{Outcome, accepted, refused, refuse, andThen, numberOf, placeOf}
+use Rattle.rules.specs.Report.{report}
+use Rattle.rules.specs.declared.Hour.{Hour}
+use Rattle.rules.specs.declared.Refusal.{Refusal}
+use Rattle.rules.specs.declared.Refusal.the-variants.{Short}
+use Rattle.roundtrip.specs.GivenHour.{accepted-given}
+use Rattle.codes.specs.Codes.{codeOf}
+use Rattle.places.specs.Places.{sourceStart, deliveryStart}
+use Rattle.places.specs.Walk.{source-told, delivery-told}
+use Rattle.printout.specs.ReportAtMost131072.{report-at-most}
+use Rattle.outcomes.specs.AccountsCloseOverTheCells.{accepted-whole}
+use Rattle.outcomes.specs.CodesTell.{deck-told, cells-told, number-least}
+use Rattle.barleyhood.specs.Linked as linked
+use Rattle.barleyhood.specs.Linked.{checkCode, sourcesCode, deliveriesCode, cellsOfDeck, writtenCode}
+use Rattle.barleyhood.proofs.linked.barleyhood_check.Reads as barleyhood-check-call
+use Rattle.barleyhood.proofs.linked.barleyhood_sources.Reads as barleyhood-sources-call
+use Rattle.barleyhood.proofs.linked.barleyhood_deliveries.Reads as barleyhood-deliveries-call
+use Rattle.barleyhood.proofs.linked.barleyhood_price.Reads as barleyhood-price-call
+use Rattle.barleyhood.proofs.linked.barleyhood_plain.Reads as barleyhood-plain-call
+use Rattle.barleyhood.proofs.linked.barleyhood_report.Reads as barleyhood-report-call
+use Rattle.barleyhood.proofs.linked.barleyhood_source_label.Reads as barleyhood-source-label-call
+use Rattle.barleyhood.proofs.linked.barleyhood_delivery_label.Reads as barleyhood-delivery-label-call
+
+abbrev pub Tells : {A : Type 0} → ℕ → Outcome A → Type 0
+Tells code (accepted v) = code < 4_294_967_296
+Tells code (refused r) = (code / 4_294_967_296 ≡ numberOf r) × (code % 4_294_967_296 ≡ placeOf r)
+
+-- a code below 2^32 tells no refusal
+pub not-low : (code : ℕ) (r : Refusal) → (code / 4_294_967_296 ≡ numberOf r) × (code % 4_294_967_296 ≡ placeOf r) → code < 4_294_967_296 → ⊥
+not-low code r t low = omega (arith, t .0, low, number-least r)
+
+-- A deck.
+
+deck-refused : (s : List ℕ) (code : ℕ) (r : Refusal) → reading s ≡ refused r → code ≡ codeOf r → (code / 4_294_967_296 ≡ numberOf r) × (code % 4_294_967_296 ≡ placeOf r)
+deck-refused s code r e k = let t = deck-told s r e in (ap (λ (n : ℕ). n / 4_294_967_296) k ∙ t .number, ap (λ (n : ℕ). n % 4_294_967_296) k ∙ t .place)
+
+-- by a count of the hour that is read
+deck-tells : (s : List ℕ) (code : ℕ) (told : Outcome Hour → ℕ) → ((h : Hour) → reading s ≡ accepted h → told (accepted h) < 4_294_967_296) → ((r : Refusal) → told (refused r) ≡ codeOf r)
+    → code ≡ told (reading s) → Tells code (reading s)
+deck-tells s code told low same e = go (reading s) refl e
+  where
+    go : (o : Outcome Hour) → reading s ≡ o → code ≡ told o → Tells code o
+    go (accepted h) oe e = omega (arith, e, low h oe)
+    go (refused r) oe e = deck-refused s code r oe (e ∙ same r)
+
+pub barleyhood-check : (κ : _) (a : _) (code : ℕ) (x : _) → barleyhood-check-call.Post κ a code x → Tells code (reading (a .0 .now))
+barleyhood-check κ a code x = deck-tells (a .0 .now) code checkCode (λ h e. omega arith) (λ r. refl)
+
+pub barleyhood-sources : (κ : _) (a : _) (code : ℕ) (x : _) → barleyhood-sources-call.Post κ a code x → Tells code (reading (a .0 .now))
+barleyhood-sources κ a code x = deck-tells (a .0 .now) code sourcesCode (λ h e. omega (arith, accepted-given (a .0 .now) h e .sources .few)) (λ r. refl)
+
+pub barleyhood-deliveries : (κ : _) (a : _) (code : ℕ) (x : _) → barleyhood-deliveries-call.Post κ a code x → Tells code (reading (a .0 .now))
+barleyhood-deliveries κ a code x = deck-tells (a .0 .now) code deliveriesCode (λ h e. omega (arith, accepted-given (a .0 .now) h e .deliveries .few)) (λ r. refl)
+
+-- Its cells.
+
+cells-tell : (s : List ℕ) (size code : ℕ) → code ≡ writtenCode (cellsOfDeck s size) → Tells code (cellsOfDeck s size)
+unfolding linked.cellsOfDeck
+cells-tell s size code e = go (reading s) refl e
+  where
+    of : (h : Hour) (o : Outcome (List ℤ)) → reconstruction h size ≡ o → code ≡ writtenCode o → Tells code o
+    of h (accepted xs) oe e = omega (arith, e, accepted-whole h size xs oe .few)
+    of h (refused r) oe e = let t = cells-told h size r oe in (ap (λ (n : ℕ). n / 4_294_967_296) e ∙ t .number, ap (λ (n : ℕ). n % 4_294_967_296) e ∙ t .place)
+
+    go : (o : Outcome Hour) → reading s ≡ o → code ≡ writtenCode (andThen o λ h. reconstruction h size) → Tells code (andThen o λ h. reconstruction h size)
+    go (accepted h) oe e = of h (reconstruction h size) refl e
+    go (refused r) oe e = deck-refused s code r oe e
+
+pub barleyhood-price : (κ : _) (a : _) (code : ℕ) (x : _) → barleyhood-price-call.Post κ a code x → Tells code (cellsOfDeck (a .0 .now) (length (a .1 .0 .now)))
+barleyhood-price κ a code x p = cells-tell (a .0 .now) (length (a .1 .0 .now)) code (p .0)
+
+pub barleyhood-plain : (κ : _) (a : _) (code : ℕ) (x : _) → barleyhood-plain-call.Post κ a code x → Tells code (cellsOfDeck (a .0 .now) (length (a .1 .0 .now)))
+barleyhood-plain κ a code x p = cells-tell (a .0 .now) (length (a .1 .0 .now)) code (p .0)
+
+-- Its report.
+
+report-tells : (s : List ℕ) (size code : ℕ) → code ≡ writtenCode (reporting s size) → Tells code (reporting s size)
+unfolding calls.reporting
+report-tells s size code e = go (ltb size (length (report s))) e
+  where
+    go : (b : Bool) → code ≡ writtenCode (refuse b Short (accepted (report s))) → Tells code (refuse b Short (accepted (report s)))
+    go true e = (omega (arith, e), omega (arith, e))
+    go false e = omega (arith, e, report-at-most s)
+
+pub barleyhood-report : (κ : _) (a : _) (code : ℕ) (x : _) → barleyhood-report-call.Post κ a code x → Tells code (reporting (a .0 .now) (length (a .1 .0 .now)))
+barleyhood-report κ a code x p = report-tells (a .0 .now) (length (a .1 .0 .now)) code (p .0)
+
+-- Its labels.
+
+-- a part with bytes has few
+few : (part : List ℕ) → ((length part ≡ 0 → ⊥) → length part ≤ 8192) → length part ≤ 8192
+few part l = elim (decLt 0 (length part)) [ yes k ↦ l (λ z. omega arith) | no k ↦ omega arith ]
+
+start-told : (start n code : ℕ) → n ≤ 8192 → code ≡ start * 4_294_967_296 + n → (code / 4_294_967_296 ≡ start) × (code % 4_294_967_296 ≡ n)
+start-told start n code l e = (omega arith, omega arith)
+
+pub barleyhood-source-label : (κ : _) (a : _) (code : ℕ) (x : _) → barleyhood-source-label-call.Post κ a code x
+    → (code / 4_294_967_296 ≡ sourceStart (a .0 .now) (a .1 .0)) × (code % 4_294_967_296 ≡ length (sourcePart (a .0 .now) (a .1 .0)))
+barleyhood-source-label κ a code x =
+    let s = a .0 .now in
+    let i = a .1 .0 in
+    start-told (sourceStart s i) (length (sourcePart s i)) code (few (sourcePart s i) λ some. source-told s i (sourcePart s i) some refl .small)
+
+pub barleyhood-delivery-label : (κ : _) (a : _) (code : ℕ) (x : _) → barleyhood-delivery-label-call.Post κ a code x
+    → (code / 4_294_967_296 ≡ deliveryStart (a .0 .now) (a .1 .0)) × (code % 4_294_967_296 ≡ length (deliveryPart (a .0 .now) (a .1 .0)))
+barleyhood-delivery-label κ a code x =
+    let s = a .0 .now in
+    let j = a .1 .0 in
+    start-told (deliveryStart s j) (length (deliveryPart s j)) code (few (deliveryPart s j) λ some. delivery-told s j (deliveryPart s j) some refl .small)

@@ -1,0 +1,9 @@
+-- Theorems over the contracts of the calls, as src/ has them.
+pub mod AskNothing
+pub mod OneOutcome
+pub mod TwoCallsAgree
+pub mod CodesTell
+pub mod MentionsAreNotLabels
+pub mod AccountsCloseOverTheCells
+pub mod RefusedCallsChangeNothing
+pub mod WrongReconstructors

@@ -1,0 +1,52 @@
+-- The best so far is that of the deliveries passed.
+use Prim.Native.Nat.{_-_, _≤_}
+use native.Mathlib.Omega.{arith}
+use borrow.Author.Needs.{needs}
+use Rattle.sequence.specs.HighestNumber.{Highest, highest-none, highest-more, highest-end}
+use Rattle.sequence.proofs.highest_below.Statement.{statement}
+use Rattle.sequence.proofs.highest_below.Tie as tie
+
+abbrev Inv-loop : tie.InvT-loop
+Inv-loop n x numbers best₀ j₀ best j = (j ≤ n) × Highest numbers j x best
+
+abbrev μ-loop : tie.MeasureT-loop
+μ-loop n x numbers best₀ j₀ best j = n - j
+
+loop-holds : tie.Need-loop-holds Inv-loop μ-loop
+loop-holds c = (omega arith, highest-none _ _)
+
+mul-y : tie.Need-mul-y Inv-loop μ-loop
+mul-y c = omega arith
+
+array-copy-out-y : tie.Need-array-copy-out-y Inv-loop μ-loop
+array-copy-out-y c = omega arith
+
+higher-requires : tie.Need-higher-requires Inv-loop μ-loop
+higher-requires c κs = search needs
+
+add-j : tie.Need-add-j Inv-loop μ-loop
+add-j c = omega arith
+
+loop-less : tie.Need-loop-less Inv-loop μ-loop
+loop-less c = omega arith
+
+loop-again : tie.Need-loop-again Inv-loop μ-loop
+loop-again c = (omega arith, highest-more _ _ _ _ (c .before .before .before .loop .inv .1) _ (c .higher .ensures))
+
+returns : tie.Need-returns Inv-loop μ-loop
+returns c = highest-end _ _ _ _ _ (c .before .loop .inv .0) (c .loop-test .left) (c .before .loop .inv .1)
+
+pub highest-below-spec : {M : Type 1} → statement M
+highest-below-spec =
+    tie.close
+    (tie.spec
+    Inv-loop
+    μ-loop
+    loop-holds
+    mul-y
+    array-copy-out-y
+    higher-requires
+    add-j
+    loop-less
+    loop-again
+    returns)
