@@ -38,10 +38,6 @@ heatRate = 0 to 39_996
 abbrev pub energy : Range
 energy = 0 to 2000
 
--- "a cost at a level 0..2,000"
-abbrev pub costLevel : Range
-costLevel = 0 to 2000
-
 abbrev pub purchaseRate : Range
 purchaseRate = 0 to 999_999
 
@@ -61,3 +57,7 @@ basisMwh = 1 to 1999
 
 abbrev pub percent : Range
 percent = 1 to 100
+
+-- "Any other public call (.. a cost at a level 0..2,000)"
+abbrev pub costLevel : Range
+costLevel = 0 to 2000

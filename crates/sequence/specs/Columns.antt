@@ -42,8 +42,8 @@ pub record Ranged (blocks : List ℕ) (own : List InternalSequence) (n : ℕ) : 
   pub block : (j : ℕ) → j < n → getD blocks j 0 ≤ 99
   pub number : (j : ℕ) → j < n → internalAt own j .0 ≤ 990
 
-abbrev pub isNone : InternalSequence → Bool
-isNone x = eqb (x .0) 0
+abbrev pub isUnplaced : InternalSequence → Bool
+isUnplaced x = eqb (x .0) 0
 
 abbrev pub fits : Sought → ℕ → ℕ → Bool
 fits (Block k b) kind block = eqb kind k && eqb block b
@@ -60,11 +60,11 @@ pick false = min
 
 -- the lesser, or greater, of two numbers, where there are any
 abbrev pub betterOf : Bool → InternalSequence → InternalSequence → InternalSequence
-betterOf greatest x y = if isNone x then y else if isNone y then x else internal (pick greatest (x .0) (y .0))
+betterOf greatest x y = if isUnplaced x then y else if isUnplaced y then x else internal (pick greatest (x .0) (y .0))
 
 -- the match of a number
 abbrev pub found : InternalSequence → Option InternalSequence
-found x = if isNone x then none else some x
+found x = if isUnplaced x then none else some x
 
 -- s is the best match among the first n of any deliveries that have these columns
 pub record Best (kinds blocks : List ℕ) (own : List InternalSequence) (n : ℕ) (greatest : Bool) (passes : Delivery → Bool) (s : InternalSequence) : Type 0 where
@@ -78,7 +78,7 @@ sought x o = fits x (o .kind) (o .block)
 abbrev pub under : ℕ → ℕ → Delivery → Bool
 under kind block o = eqb (o .kind) kind && not (eqb (block - 1) 0) && eqb (o .block) (block - 1)
 
-pub found-some : (x : InternalSequence) → isNone x ≡ false → found x ≡ some x
+pub found-some : (x : InternalSequence) → isUnplaced x ≡ false → found x ≡ some x
 found-some x e = rw e
 
 match-found : (passes : Delivery → Bool) (t : Delivery) → match passes t ≡ found (if passes t then ownNumber t else noNumber)
@@ -91,20 +91,20 @@ match-found passes t = go (t .sequence .0) (passes t)
     go (suc s) false = rw (ne-eqb (suc s) 0 (λ e. omega arith))
 
 joined-found : (greatest : Bool) (x y : InternalSequence) → joined (pick greatest) (found x) (found y) ≡ found (betterOf greatest x y)
-joined-found greatest x y = go (isNone x) (isNone y) refl refl
+joined-found greatest x y = go (isUnplaced x) (isUnplaced y) refl refl
   where
-    some-picked : (g : Bool) → isNone x ≡ false → isNone y ≡ false → isNone (internal (pick g (x .0) (y .0))) ≡ false
+    some-picked : (g : Bool) → isUnplaced x ≡ false → isUnplaced y ≡ false → isUnplaced (internal (pick g (x .0) (y .0))) ≡ false
     some-picked true e f = ne-eqb (max (x .0) (y .0)) 0 (λ z. omega (arith, eqb-false (x .0) 0 e))
     some-picked false e f = ne-eqb (min (x .0) (y .0)) 0 (λ z. omega (arith, eqb-false (x .0) 0 e, eqb-false (y .0) 0 f))
 
-    go : (a b : Bool) → isNone x ≡ a → isNone y ≡ b →
+    go : (a b : Bool) → isUnplaced x ≡ a → isUnplaced y ≡ b →
         joined (pick greatest) (if a then none else some x) (if b then none else some y) ≡ found (if a then y else if b then x else internal (pick greatest (x .0) (y .0)))
     go true b e f = rw f
     go false true e f = rw e
     go false false e f = rw (some-picked greatest e f)
 
 better-small : (greatest : Bool) (x y : InternalSequence) → x .0 ≤ 990 → y .0 ≤ 990 → betterOf greatest x y .0 ≤ 990
-better-small greatest x y a b = go (isNone x) (isNone y) greatest
+better-small greatest x y a b = go (isUnplaced x) (isUnplaced y) greatest
   where
     go : (p q g : Bool) → (if p then y else if q then x else internal (pick g (x .0) (y .0))) .0 ≤ 990
     go true q g = b
@@ -174,10 +174,10 @@ module _ (kinds blocks : List ℕ) (own : List InternalSequence) (greatest : Boo
 
 -- no match is no number
 pub no-match : {kinds blocks : List ℕ} {own : List InternalSequence} {n : ℕ} {greatest : Bool} {passes : Delivery → Bool} {s : InternalSequence} →
-    isNone s ≡ true → Best kinds blocks own n greatest passes s → Best kinds blocks own n greatest passes noNumber
+    isUnplaced s ≡ true → Best kinds blocks own n greatest passes s → Best kinds blocks own n greatest passes noNumber
 no-match {s = s} e b = rw (number-same s noNumber e) at b
 
 -- a match can be stepped from
 pub match-steps : {kinds blocks : List ℕ} {own : List InternalSequence} {n : ℕ} {greatest : Bool} {passes : Delivery → Bool} {s : InternalSequence} →
-    isNone s ≡ false → Best kinds blocks own n greatest passes s → (0 < s .0) × (s .0 ≤ 990)
+    isUnplaced s ≡ false → Best kinds blocks own n greatest passes s → (0 < s .0) × (s .0 ≤ 990)
 match-steps {s = s} e b = (omega (arith, eqb-false (s .0) 0 e), b .small)

@@ -14,7 +14,7 @@ use Rattle.rules.specs.Words.{if_then_else_}
 use Rattle.rules.specs.declared.Delivery.{Delivery}
 use Rattle.rules.specs.declared.InternalSequence.{InternalSequence}
 use Rattle.sequence.specs.declared.Sought.the-variants.{Block, Kind, Any}
-use Rattle.sequence.specs.Columns.{Columns, isNone, ownNumber, found, found-some, Best, sought, under}
+use Rattle.sequence.specs.Columns.{Columns, isUnplaced, ownNumber, found, found-some, Best, sought, under}
 
 -- nothing passes, and so nothing matches
 matches-nothing : (f : ℕ → ℕ → ℕ) (ts : List Delivery) (n : ℕ) → matches f (λ o. false) ts n ≡ none
@@ -83,7 +83,7 @@ module _ (kinds blocks : List ℕ) (own : List InternalSequence) (n j : ℕ) whe
       unfolding ruleE
       is-e b = ap before (b .is ts c)
 
-    module _ {s r : InternalSequence} (l : isNone s ≡ false) where
+    module _ {s r : InternalSequence} (l : isUnplaced s ≡ false) where
       pub place-a : SameBlock s → some r ≡ before (some s) → Placing r
       unfolding placed
       place-a p q ts c = rw (is-a ts c p, found-some s l) (ap orNone q)
@@ -112,14 +112,14 @@ module _ (kinds blocks : List ℕ) (own : List InternalSequence) (n j : ℕ) whe
     its-own : (ts : List Delivery) → Columns ts n kinds blocks own → internalAt own j ≡ ownNumber (getD ts j noDelivery)
     its-own ts c = c .number .at j in-range
 
-    pub number-placed : {r : InternalSequence} → isNone (internalAt own j) ≡ true → Placing r → Numbering r
+    pub number-placed : {r : InternalSequence} → isUnplaced (internalAt own j) ≡ true → Placing r → Numbering r
     unfolding numbered
     number-placed e p ts c =
         let t = getD ts j noDelivery in
         let z : internalAt own j .0 ≡ 0 = eqb-true (internalAt own j .0) 0 e in
         rw (eq-eqb (t .sequence .0) 0 (omega (arith, z, ap (λ (x : InternalSequence). x .0) (its-own ts c)))) (p ts c)
 
-    pub number-given : isNone (internalAt own j) ≡ false → Numbering (internalAt own j)
+    pub number-given : isUnplaced (internalAt own j) ≡ false → Numbering (internalAt own j)
     unfolding numbered
     number-given e ts c =
         let t = getD ts j noDelivery in

@@ -12,7 +12,7 @@ ghost use lib.Dec.{eqb};
 ghost use Rattle.rules.specs.Sequences.{timesTen, sameNumber, before, after};
 ghost use Rattle.rules.specs.declared.Delivery.{Delivery};
 ghost use Rattle.laws.specs.Internal.{internal};
-ghost use Rattle.sequence.specs.Columns.{Columns, Ranged, isNone, fits, numberIf, betterOf, Best, sought, under};
+ghost use Rattle.sequence.specs.Columns.{Columns, Ranged, isUnplaced, fits, numberIf, betterOf, Best, sought, under};
 ghost use Rattle.sequence.specs.RuleByRule.{Placing, Numbering};
 ghost use Rattle.sequence.specs.Placings.{Placeable, placings};
 ghost use Rattle.sequence.specs.HighestNumber.{isBelow, beaten, higherOf, Highest};
@@ -73,8 +73,8 @@ fn is_below(x: InternalSequence, y: InternalSequence) -> bool
 }
 
 // 0 is no number: a delivery to be placed has it, and so is no match.
-fn is_none(x: InternalSequence) -> bool
-    ensures { λ r. ⌜ r ≡ isNone x ⌝ }
+fn is_unplaced(x: InternalSequence) -> bool
+    ensures { λ r. ⌜ r ≡ isUnplaced x ⌝ }
 {
     x.0 == 0
 }
@@ -130,10 +130,10 @@ fn greater(x: InternalSequence, y: InternalSequence) -> InternalSequence
 fn better(greatest: bool, x: InternalSequence, y: InternalSequence) -> InternalSequence
     ensures { λ r. ⌜ r ≡ betterOf greatest x y ⌝ }
 {
-    if is_none(x) {
+    if is_unplaced(x) {
         return y;
     }
-    if is_none(y) {
+    if is_unplaced(y) {
         return x;
     }
     if greatest {
@@ -205,7 +205,7 @@ fn place(
         block: block,
     };
     let a = best_match(kinds, blocks, own, n, false, same);
-    if !is_none(a) {
+    if !is_unplaced(a) {
         return one_before(a);
     }
     let next = Sought::Block {
@@ -213,19 +213,19 @@ fn place(
         block: block + 1,
     };
     let b = best_match(kinds, blocks, own, n, false, next);
-    if !is_none(b) {
+    if !is_unplaced(b) {
         return one_before(b);
     }
     let c = match_under(kinds, blocks, own, n, kind, block);
-    if !is_none(c) {
+    if !is_unplaced(c) {
         return one_after(c);
     }
     let d = best_match(kinds, blocks, own, n, false, Sought::Kind(kind));
-    if !is_none(d) {
+    if !is_unplaced(d) {
         return one_before(d);
     }
     let e = best_match(kinds, blocks, own, n, false, Sought::Any);
-    if !is_none(e) {
+    if !is_unplaced(e) {
         return one_before(e);
     }
     InternalSequence(0)
@@ -242,7 +242,7 @@ fn number(
     ensures { λ r. ⌜ Numbering (now (kinds .entry)) (now (blocks .entry)) own n j r ⌝ }
 {
     let x = own[j];
-    if is_none(x) {
+    if is_unplaced(x) {
         return place(kinds, blocks, own, n, j);
     }
     x

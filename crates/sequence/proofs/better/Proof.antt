@@ -4,19 +4,19 @@ use borrow.Author.Needs.{needs}
 use Rattle.sequence.proofs.better.Statement.{statement}
 use Rattle.sequence.proofs.better.Tie as tie
 
-is-none-requires : tie.Need-is-none-requires
-is-none-requires c κs = search needs
+is-unplaced-requires : tie.Need-is-unplaced-requires
+is-unplaced-requires c κs = search needs
 
 returns : tie.Need-returns
-returns c = rw (sym (c .before .is-none .ensures) ∙ c .if1 .taken)
+returns c = rw (sym (c .before .is-unplaced .ensures) ∙ c .if1 .taken)
 
-is-none-requires-2 : tie.Need-is-none-requires-2
-is-none-requires-2 c κs = search needs
+is-unplaced-requires-2 : tie.Need-is-unplaced-requires-2
+is-unplaced-requires-2 c κs = search needs
 
 returns-2 : tie.Need-returns-2
 returns-2 c =
     let at-first = c .before .before in
-    rw (sym (at-first .before .is-none .ensures) ∙ at-first .if1 .left, sym (c .before .is-none2 .ensures) ∙ c .if2 .taken)
+    rw (sym (at-first .before .is-unplaced .ensures) ∙ at-first .if1 .left, sym (c .before .is-unplaced2 .ensures) ∙ c .if2 .taken)
 
 greater-requires : tie.Need-greater-requires
 greater-requires c κs = search needs
@@ -25,7 +25,7 @@ returns-3 : tie.Need-returns-3
 returns-3 c =
     let at-second = c .before .before in
     let at-first = at-second .before .before in
-    rw (sym (at-first .before .is-none .ensures) ∙ at-first .if1 .left, sym (at-second .before .is-none2 .ensures) ∙ at-second .if2 .left, c .before .if3 .taken) (c .greater .ensures)
+    rw (sym (at-first .before .is-unplaced .ensures) ∙ at-first .if1 .left, sym (at-second .before .is-unplaced2 .ensures) ∙ at-second .if2 .left, c .before .if3 .taken) (c .greater .ensures)
 
 lesser-requires : tie.Need-lesser-requires
 lesser-requires c κs = search needs
@@ -34,15 +34,15 @@ returns-4 : tie.Need-returns-4
 returns-4 c =
     let at-second = c .before .before in
     let at-first = at-second .before .before in
-    rw (sym (at-first .before .is-none .ensures) ∙ at-first .if1 .left, sym (at-second .before .is-none2 .ensures) ∙ at-second .if2 .left, c .before .if3 .left) (c .lesser .ensures)
+    rw (sym (at-first .before .is-unplaced .ensures) ∙ at-first .if1 .left, sym (at-second .before .is-unplaced2 .ensures) ∙ at-second .if2 .left, c .before .if3 .left) (c .lesser .ensures)
 
 pub better-spec : {M : Type 1} → statement M
 better-spec =
     tie.close
     (tie.spec
-    is-none-requires
+    is-unplaced-requires
     returns
-    is-none-requires-2
+    is-unplaced-requires-2
     returns-2
     greater-requires
     returns-3

@@ -15,31 +15,31 @@ abbrev past-a : tie.Else1 → tie.Start
 past-a c = c .before .before .before .before .before
 
 no-a : (c : tie.Else1) → let s = past-a c .args in SameBlock (s .kinds .now) (s .blocks .now) (s .own) (s .n) (s .j) noNumber
-no-a c = no-match (sym (c .before .is-none .ensures) ∙ not-false _ (c .if1 .left)) (c .before .before .best-match .ensures)
+no-a c = no-match (sym (c .before .is-unplaced .ensures) ∙ not-false _ (c .if1 .left)) (c .before .before .best-match .ensures)
 
 abbrev past-b : tie.Else2 → tie.Start
 past-b c = past-a (c .before .before .before)
 
 no-b : (c : tie.Else2) → let s = past-b c .args in NextBlock (s .kinds .now) (s .blocks .now) (s .own) (s .n) (s .j) noNumber
-no-b c = no-match (sym (c .before .is-none2 .ensures) ∙ not-false _ (c .if2 .left)) (c .before .before .best-match2 .ensures)
+no-b c = no-match (sym (c .before .is-unplaced2 .ensures) ∙ not-false _ (c .if2 .left)) (c .before .before .best-match2 .ensures)
 
 abbrev past-c : tie.Else3 → tie.Start
 past-c c = past-b (c .before .before .before)
 
 no-c : (c : tie.Else3) → let s = past-c c .args in BlockUnder (s .kinds .now) (s .blocks .now) (s .own) (s .n) (s .j) noNumber
-no-c c = no-match (sym (c .before .is-none3 .ensures) ∙ not-false _ (c .if3 .left)) (c .before .before .match-under .ensures)
+no-c c = no-match (sym (c .before .is-unplaced3 .ensures) ∙ not-false _ (c .if3 .left)) (c .before .before .match-under .ensures)
 
 abbrev past-d : tie.Else4 → tie.Start
 past-d c = past-c (c .before .before .before)
 
 no-d : (c : tie.Else4) → let s = past-d c .args in SameType (s .kinds .now) (s .blocks .now) (s .own) (s .n) (s .j) noNumber
-no-d c = no-match (sym (c .before .is-none4 .ensures) ∙ not-false _ (c .if4 .left)) (c .before .before .best-match3 .ensures)
+no-d c = no-match (sym (c .before .is-unplaced4 .ensures) ∙ not-false _ (c .if4 .left)) (c .before .before .best-match3 .ensures)
 
 abbrev past-e : tie.Else5 → tie.Start
 past-e c = past-d (c .before .before .before)
 
 no-e : (c : tie.Else5) → let s = past-e c .args in Anything (s .kinds .now) (s .blocks .now) (s .own) (s .n) (s .j) noNumber
-no-e c = no-match (sym (c .before .is-none5 .ensures) ∙ not-false _ (c .if5 .left)) (c .before .before .best-match4 .ensures)
+no-e c = no-match (sym (c .before .is-unplaced5 .ensures) ∙ not-false _ (c .if5 .left)) (c .before .before .best-match4 .ensures)
 
 mul-kind : tie.Need-mul-kind
 mul-kind c = search needs
@@ -56,18 +56,18 @@ element-copy-out-block c = search needs
 best-match-requires : tie.Need-best-match-requires
 best-match-requires c κs = search needs
 
-is-none-requires : tie.Need-is-none-requires
-is-none-requires c κs = search needs
+is-unplaced-requires : tie.Need-is-unplaced-requires
+is-unplaced-requires c κs = search needs
 
 one-before-requires : tie.Need-one-before-requires
-one-before-requires c κs = match-steps (sym (c .before .is-none .ensures) ∙ not-true _ (c .if1 .taken)) (c .before .before .best-match .ensures)
+one-before-requires c κs = match-steps (sym (c .before .is-unplaced .ensures) ∙ not-true _ (c .if1 .taken)) (c .before .before .best-match .ensures)
 
 returns : tie.Need-returns
 returns c =
     let at-test = c .before in
     let at-match = at-test .before .before in
     let start = at-match .before .before .before in
-    place-a _ _ _ _ (start .args .j) (start .pre .1) (sym (at-test .before .is-none .ensures) ∙ not-true _ (at-test .if1 .taken)) (at-match .best-match .ensures) (c .one-before .ensures)
+    place-a _ _ _ _ (start .args .j) (start .pre .1) (sym (at-test .before .is-unplaced .ensures) ∙ not-true _ (at-test .if1 .taken)) (at-match .best-match .ensures) (c .one-before .ensures)
 
 add-t18 : tie.Need-add-t18
 add-t18 c = let start = past-a c in omega (arith, start .pre .0 .block (start .args .j) (start .pre .1))
@@ -75,11 +75,11 @@ add-t18 c = let start = past-a c in omega (arith, start .pre .0 .block (start .a
 best-match-requires-2 : tie.Need-best-match-requires-2
 best-match-requires-2 c κs = search needs
 
-is-none-requires-2 : tie.Need-is-none-requires-2
-is-none-requires-2 c κs = search needs
+is-unplaced-requires-2 : tie.Need-is-unplaced-requires-2
+is-unplaced-requires-2 c κs = search needs
 
 one-before-requires-2 : tie.Need-one-before-requires-2
-one-before-requires-2 c κs = match-steps (sym (c .before .is-none2 .ensures) ∙ not-true _ (c .if2 .taken)) (c .before .before .best-match2 .ensures)
+one-before-requires-2 c κs = match-steps (sym (c .before .is-unplaced2 .ensures) ∙ not-true _ (c .if2 .taken)) (c .before .before .best-match2 .ensures)
 
 returns-2 : tie.Need-returns-2
 returns-2 c =
@@ -87,16 +87,16 @@ returns-2 c =
     let at-match = at-test .before .before in
     let at-a = at-match .before in
     let start = past-a at-a in
-    place-b _ _ _ _ (start .args .j) (start .pre .1) (sym (at-test .before .is-none2 .ensures) ∙ not-true _ (at-test .if2 .taken)) (no-a at-a) (at-match .best-match2 .ensures) (c .one-before2 .ensures)
+    place-b _ _ _ _ (start .args .j) (start .pre .1) (sym (at-test .before .is-unplaced2 .ensures) ∙ not-true _ (at-test .if2 .taken)) (no-a at-a) (at-match .best-match2 .ensures) (c .one-before2 .ensures)
 
 match-under-requires : tie.Need-match-under-requires
 match-under-requires c κs = search needs
 
-is-none-requires-3 : tie.Need-is-none-requires-3
-is-none-requires-3 c κs = search needs
+is-unplaced-requires-3 : tie.Need-is-unplaced-requires-3
+is-unplaced-requires-3 c κs = search needs
 
 one-after-requires : tie.Need-one-after-requires
-one-after-requires c κs = match-steps (sym (c .before .is-none3 .ensures) ∙ not-true _ (c .if3 .taken)) (c .before .before .match-under .ensures)
+one-after-requires c κs = match-steps (sym (c .before .is-unplaced3 .ensures) ∙ not-true _ (c .if3 .taken)) (c .before .before .match-under .ensures)
 
 returns-3 : tie.Need-returns-3
 returns-3 c =
@@ -105,16 +105,16 @@ returns-3 c =
     let at-b = at-match .before in
     let at-a = at-b .before .before .before in
     let start = past-a at-a in
-    place-c _ _ _ _ (start .args .j) (start .pre .1) (sym (at-test .before .is-none3 .ensures) ∙ not-true _ (at-test .if3 .taken)) (no-a at-a) (no-b at-b) (at-match .match-under .ensures) (c .one-after .ensures)
+    place-c _ _ _ _ (start .args .j) (start .pre .1) (sym (at-test .before .is-unplaced3 .ensures) ∙ not-true _ (at-test .if3 .taken)) (no-a at-a) (no-b at-b) (at-match .match-under .ensures) (c .one-after .ensures)
 
 best-match-requires-3 : tie.Need-best-match-requires-3
 best-match-requires-3 c κs = search needs
 
-is-none-requires-4 : tie.Need-is-none-requires-4
-is-none-requires-4 c κs = search needs
+is-unplaced-requires-4 : tie.Need-is-unplaced-requires-4
+is-unplaced-requires-4 c κs = search needs
 
 one-before-requires-3 : tie.Need-one-before-requires-3
-one-before-requires-3 c κs = match-steps (sym (c .before .is-none4 .ensures) ∙ not-true _ (c .if4 .taken)) (c .before .before .best-match3 .ensures)
+one-before-requires-3 c κs = match-steps (sym (c .before .is-unplaced4 .ensures) ∙ not-true _ (c .if4 .taken)) (c .before .before .best-match3 .ensures)
 
 returns-4 : tie.Need-returns-4
 returns-4 c =
@@ -124,16 +124,16 @@ returns-4 c =
     let at-b = at-c .before .before .before in
     let at-a = at-b .before .before .before in
     let start = past-a at-a in
-    place-d _ _ _ _ (start .args .j) (start .pre .1) (sym (at-test .before .is-none4 .ensures) ∙ not-true _ (at-test .if4 .taken)) (no-a at-a) (no-b at-b) (no-c at-c) (at-match .best-match3 .ensures) (c .one-before3 .ensures)
+    place-d _ _ _ _ (start .args .j) (start .pre .1) (sym (at-test .before .is-unplaced4 .ensures) ∙ not-true _ (at-test .if4 .taken)) (no-a at-a) (no-b at-b) (no-c at-c) (at-match .best-match3 .ensures) (c .one-before3 .ensures)
 
 best-match-requires-4 : tie.Need-best-match-requires-4
 best-match-requires-4 c κs = search needs
 
-is-none-requires-5 : tie.Need-is-none-requires-5
-is-none-requires-5 c κs = search needs
+is-unplaced-requires-5 : tie.Need-is-unplaced-requires-5
+is-unplaced-requires-5 c κs = search needs
 
 one-before-requires-4 : tie.Need-one-before-requires-4
-one-before-requires-4 c κs = match-steps (sym (c .before .is-none5 .ensures) ∙ not-true _ (c .if5 .taken)) (c .before .before .best-match4 .ensures)
+one-before-requires-4 c κs = match-steps (sym (c .before .is-unplaced5 .ensures) ∙ not-true _ (c .if5 .taken)) (c .before .before .best-match4 .ensures)
 
 returns-5 : tie.Need-returns-5
 returns-5 c =
@@ -144,7 +144,7 @@ returns-5 c =
     let at-b = at-c .before .before .before in
     let at-a = at-b .before .before .before in
     let start = past-a at-a in
-    place-e _ _ _ _ (start .args .j) (start .pre .1) (sym (at-test .before .is-none5 .ensures) ∙ not-true _ (at-test .if5 .taken)) (no-a at-a) (no-b at-b) (no-c at-c) (no-d at-d) (at-match .best-match4 .ensures) (c .one-before4 .ensures)
+    place-e _ _ _ _ (start .args .j) (start .pre .1) (sym (at-test .before .is-unplaced5 .ensures) ∙ not-true _ (at-test .if5 .taken)) (no-a at-a) (no-b at-b) (no-c at-c) (no-d at-d) (at-match .best-match4 .ensures) (c .one-before4 .ensures)
 
 returns-6 : tie.Need-returns-6
 returns-6 c =
@@ -165,24 +165,24 @@ place-spec =
     mul-block
     element-copy-out-block
     best-match-requires
-    is-none-requires
+    is-unplaced-requires
     one-before-requires
     returns
     add-t18
     best-match-requires-2
-    is-none-requires-2
+    is-unplaced-requires-2
     one-before-requires-2
     returns-2
     match-under-requires
-    is-none-requires-3
+    is-unplaced-requires-3
     one-after-requires
     returns-3
     best-match-requires-3
-    is-none-requires-4
+    is-unplaced-requires-4
     one-before-requires-3
     returns-4
     best-match-requires-4
-    is-none-requires-5
+    is-unplaced-requires-5
     one-before-requires-4
     returns-5
     returns-6)

@@ -675,7 +675,7 @@ element-write-led c =
 highest-below-requires-2 : tie.Need-highest-below-requires-2 Inv-loop μ-loop Inv-loop2 μ-loop2 Inv-loop3 μ-loop3 Inv-loop5 μ-loop5 Inv-loop6 μ-loop6 Inv-loop4 μ-loop4
 highest-below-requires-2 c κs =
     let start = the-start (the-turn (the-lines (the-total (c .before)))) in
-    valid-given _ (start .pre .0) .deliveries .few
+    omega (arith, valid-given _ (start .pre .0) .deliveries .few)
 
 loop4-less : tie.Need-loop4-less Inv-loop μ-loop Inv-loop2 μ-loop2 Inv-loop3 μ-loop3 Inv-loop5 μ-loop5 Inv-loop6 μ-loop6 Inv-loop4 μ-loop4
 loop4-less c =
