@@ -7,3 +7,8 @@ pub mod AnswerCells
 pub mod HourBalances
 pub mod Balance
 pub mod CellsFit
+pub mod ValidHour
+pub mod AccountsClose
+pub mod EveryGroupIsDone
+pub mod NetMwhIsTheTotal
+pub mod EveryCellFits

@@ -18,10 +18,10 @@ use Rattle.rules.specs.declared.Hour.{Hour}
 use Rattle.rules.specs.declared.Refusal.{Refusal}
 use Rattle.rules.specs.declared.Refusal.the-variants.{Short}
 use Rattle.roundtrip.specs.GivenHour.{accepted-given}
-use Rattle.codes.specs.Codes.{codeOf}
-use Rattle.places.specs.Places.{sourceStart, deliveryStart}
-use Rattle.places.specs.Walk.{source-told, delivery-told}
-use Rattle.printout.specs.ReportAtMost131072.{report-at-most}
+use Rattle.refusals.specs.Codes.{codeOf}
+use Rattle.label_places.specs.Places.{sourceStart, deliveryStart}
+use Rattle.label_places.specs.Walk.{source-told, delivery-told}
+use Rattle.print_report.specs.ReportAtMost131072.{report-at-most}
 use Rattle.outcomes.specs.AccountsCloseOverTheCells.{accepted-whole}
 use Rattle.outcomes.specs.CodesTell.{deck-told, cells-told, number-least}
 use Rattle.barleyhood.specs.Linked as linked

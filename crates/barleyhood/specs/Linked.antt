@@ -3,7 +3,7 @@ use mathlib.Core.List.{List}
 use Prim.Native.Nat.{ℕ}
 use lib.IntN.{ℤ}
 use lib.ListN.{length}
-use Rattle.codes.specs.Codes.{codeOf}
+use Rattle.refusals.specs.Codes.{codeOf}
 use Rattle.rules.specs.declared.Written.{Written}
 use Rattle.rules.specs.declared.Written.the-variants.{Count, Refused}
 use Rattle.rules.specs.Calls.{reconstruction}

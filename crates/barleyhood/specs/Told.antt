@@ -13,7 +13,7 @@ use Rattle.rules.specs.declared.Refusal.{Refusal}
 use Rattle.rules.specs.declared.Verdict.{Verdict}
 use Rattle.rules.specs.declared.Verdict.the-variants.{Accepted, Refused}
 use Rattle.rules.specs.declared.Written.{Written}
-use Rattle.codes.specs.Codes.{codeOf}
+use Rattle.refusals.specs.Codes.{codeOf}
 use Rattle.deck.specs.Answers.{readAnswer, read-accepted, read-refused}
 use Rattle.deck.specs.declared.ReadHour.{ReadHour}
 use Rattle.barleyhood.specs.Linked as linked

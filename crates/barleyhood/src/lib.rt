@@ -13,7 +13,7 @@ ghost use Rattle.rules.specs.Refusals.{numberOf, placeOf};
 ghost use Rattle.rules.specs.Units.{curveMade, costAsked};
 ghost use Rattle.rules.specs.Writing as given;
 ghost use Rattle.deck.specs.Answers.{readAnswer};
-ghost use Rattle.places.specs.Places.{sourceStart, deliveryStart};
+ghost use Rattle.label_places.specs.Places.{sourceStart, deliveryStart};
 pub use deck::ReadHour;
 pub use rules::Basis;
 pub use rules::CostAnswer;
@@ -53,7 +53,7 @@ pub fn source_label<'a>(s: &'a [u8], i: usize) -> &'a [u8]
     ensures bytes { λ r. ⌜ now r ≡ sourcePart (now (s .entry)) i ⌝ }
     ensures place { λ r. ⌜ ptr r ≡ (ptr (s .entry) .0, sourceStart (now (s .entry)) i + ptr (s .entry) .1) ⌝ }
 {
-    places::source_label(s, i)
+    label_places::source_label(s, i)
 }
 
 // The same of delivery j.
@@ -61,7 +61,7 @@ pub fn delivery_label<'a>(s: &'a [u8], j: usize) -> &'a [u8]
     ensures bytes { λ r. ⌜ now r ≡ deliveryPart (now (s .entry)) j ⌝ }
     ensures place { λ r. ⌜ ptr r ≡ (ptr (s .entry) .0, deliveryStart (now (s .entry)) j + ptr (s .entry) .1) ⌝ }
 {
-    places::delivery_label(s, j)
+    label_places::delivery_label(s, j)
 }
 
 // The deck's report as text into lent bytes: 14 where it does not fit. A deck that is refused has a report too.
@@ -69,7 +69,7 @@ pub fn report(s: &[u8], out: &mut [u8]) -> Written
     ensures outcome { λ r. ⌜ r ≡ writtenOf (reporting (now (s .entry)) (length (now (out .entry)))) ⌝ }
     ensures bytes { λ _. ⌜ now (out .exit) ≡ leaves (reporting (now (s .entry)) (length (now (out .entry)))) (now (out .entry)) ⌝ }
 {
-    printout::report(s, out)
+    print_report::report(s, out)
 }
 
 // Hour records.
@@ -86,7 +86,7 @@ pub fn write(h: Hour, out: &mut [u8]) -> Written
     ensures outcome { λ r. ⌜ r ≡ writtenOf (writing h (length (now (out .entry)))) ⌝ }
     ensures bytes { λ _. ⌜ now (out .exit) ≡ leaves (writing h (length (now (out .entry)))) (now (out .entry)) ⌝ }
 {
-    writer::write(h, out)
+    write_deck::write(h, out)
 }
 
 // The hour's cells into lent ones, by the plain rule, one MWh at a time: 15, then 14, then the first group that meets 12 or 13.
@@ -126,11 +126,11 @@ pub fn cost(c: HeatCurve, m: u32) -> CostAnswer
 pub fn number_of(r: Refusal) -> u64
     ensures { λ n. ⌜ n ≡ numberOf r ⌝ }
 {
-    codes::number_of(r)
+    refusals::number_of(r)
 }
 
 pub fn place_of(r: Refusal) -> usize
     ensures { λ n. ⌜ n ≡ placeOf r ⌝ }
 {
-    codes::place_of(r)
+    refusals::place_of(r)
 }

@@ -6,7 +6,7 @@ ghost use lib.ListN.{length};
 ghost use Rattle.rules.specs.Calls.{reporting, leaves};
 ghost use Rattle.rules.specs.Reading.{reading};
 ghost use Rattle.barleyhood.specs.Linked.{checkCode, sourcesCode, deliveriesCode, cellsOfDeck, writtenCode, answerCode};
-ghost use Rattle.places.specs.Places.{sourcePlace, deliveryPlace};
+ghost use Rattle.label_places.specs.Places.{sourcePlace, deliveryPlace};
 use rules::Verdict;
 use rules::Written;
 
@@ -17,7 +17,7 @@ pub extern "C" fn barleyhood_check(s: &[u8]) -> u64
 {
     match deck::check_deck(s) {
         Verdict::Accepted => 0,
-        Verdict::Refused(r) => codes::code_of(r),
+        Verdict::Refused(r) => refusals::code_of(r),
     }
 }
 
@@ -31,7 +31,7 @@ pub extern "C" fn barleyhood_sources(s: &[u8]) -> u64
     let h = x.hour;
     match v {
         Verdict::Accepted => h.nsources as u64,
-        Verdict::Refused(r) => codes::code_of(r),
+        Verdict::Refused(r) => refusals::code_of(r),
     }
 }
 
@@ -45,7 +45,7 @@ pub extern "C" fn barleyhood_deliveries(s: &[u8]) -> u64
     let h = x.hour;
     match v {
         Verdict::Accepted => h.ndeliveries as u64,
-        Verdict::Refused(r) => codes::code_of(r),
+        Verdict::Refused(r) => refusals::code_of(r),
     }
 }
 
@@ -55,7 +55,7 @@ fn written_code(x: Written) -> u64
 {
     match x {
         Written::Count(n) => n as u64,
-        Written::Refused(r) => codes::code_of(r),
+        Written::Refused(r) => refusals::code_of(r),
     }
 }
 
@@ -70,7 +70,7 @@ pub extern "C" fn barleyhood_price(s: &[u8], out: &mut [i64]) -> u64
     let h = x.hour;
     match v {
         Verdict::Accepted => written_code(reconstruct::price(h, out)),
-        Verdict::Refused(r) => codes::code_of(r),
+        Verdict::Refused(r) => refusals::code_of(r),
     }
 }
 
@@ -85,7 +85,7 @@ pub extern "C" fn barleyhood_plain(s: &[u8], out: &mut [i64]) -> u64
     let h = x.hour;
     match v {
         Verdict::Accepted => written_code(reconstruct::plain(h, out)),
-        Verdict::Refused(r) => codes::code_of(r),
+        Verdict::Refused(r) => refusals::code_of(r),
     }
 }
 
@@ -95,7 +95,7 @@ pub extern "C" fn barleyhood_report(s: &[u8], out: &mut [u8]) -> u64
     ensures code { λ r. ⌜ r ≡ writtenCode (reporting (now (s .entry)) (length (now (out .entry)))) ⌝ }
     ensures bytes { λ _. ⌜ now (out .exit) ≡ leaves (reporting (now (s .entry)) (length (now (out .entry)))) (now (out .entry)) ⌝ }
 {
-    written_code(printout::report(s, out))
+    written_code(print_report::report(s, out))
 }
 
 // Where the own bytes of source i's label stand in the deck.
@@ -103,7 +103,7 @@ pub extern "C" fn barleyhood_report(s: &[u8], out: &mut [u8]) -> u64
 pub extern "C" fn barleyhood_source_label(s: &[u8], i: usize) -> u64
     ensures { λ r. ⌜ r ≡ sourcePlace (now (s .entry)) i ⌝ }
 {
-    places::source_place(s, i)
+    label_places::source_place(s, i)
 }
 
 // The same of delivery j.
@@ -111,5 +111,5 @@ pub extern "C" fn barleyhood_source_label(s: &[u8], i: usize) -> u64
 pub extern "C" fn barleyhood_delivery_label(s: &[u8], j: usize) -> u64
     ensures { λ r. ⌜ r ≡ deliveryPlace (now (s .entry)) j ⌝ }
 {
-    places::delivery_place(s, j)
+    label_places::delivery_place(s, j)
 }

@@ -4,7 +4,7 @@ use rules::Written;
 
 fn put_report(s: &[u8]) {
     let mut out = [0u8; 131072];
-    match printout::report(s, &mut out) {
+    match print_report::report(s, &mut out) {
         Written::Count(n) => {
             frames::put_line(b"report ", n as u64);
             frames::put_first(&out, n);

@@ -18,11 +18,11 @@ use Rattle.rules.specs.Record.{started}
 use Rattle.rules.specs.Reading as reading-of
 use Rattle.rules.specs.Reading.{headed, headedAs, onLine, linesFrom, reading}
 use Rattle.rules.specs.declared.Refusal.the-variants.{TooLong, Form, Range}
-use Rattle.text.specs.Answers.{cut, stepOf}
-use Rattle.text.specs.declared.Step.the-variants.{At, Missing}
-use Rattle.lines.specs.Answers.{headLine}
-use Rattle.lines.specs.Cut.{ranged-cut, cut-ranged, cutFields, found, not-found}
-use Rattle.lines.specs.declared.HeadLine.the-variants.{Read as HeadRead, Malformed as NoHead}
+use Rattle.read_fields.specs.Answers.{cut, stepOf}
+use Rattle.read_fields.specs.declared.Step.the-variants.{At, Missing}
+use Rattle.read_lines.specs.Answers.{headLine}
+use Rattle.read_lines.specs.Cut.{ranged-cut, cut-ranged, cutFields, found, not-found}
+use Rattle.read_lines.specs.declared.HeadLine.the-variants.{Read as HeadRead, Malformed as NoHead}
 use Rattle.ranges.specs.Inside.{lossesInside}
 use Rattle.ranges.specs.RangedIsInside.{losses-inside}
 use Rattle.rules.specs.declared.Verdict.the-variants.{Accepted}

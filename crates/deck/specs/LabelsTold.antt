@@ -7,13 +7,13 @@ use Rattle.rules.specs.Fields.{Field, got, malformed, Place}
 use Rattle.rules.specs.Lines.{U, P, F, T, D, placesAt}
 use Rattle.rules.specs.declared.Basis.{Basis}
 use Rattle.ranges.specs.declared.UnitNumbers.{UnitNumbers}
-use Rattle.lines.specs.Answers.{unitLine, purchaseLine, fixedLine, deliveryLine, directLine}
-use Rattle.lines.specs.Cut.{found, LabelStands, line-stands}
-use Rattle.lines.specs.declared.UnitLine.the-variants.{Read as UnitRead}
-use Rattle.lines.specs.declared.PurchaseLine.the-variants.{Read as PurchaseRead}
-use Rattle.lines.specs.declared.FixedLine.the-variants.{Read as FixedRead}
-use Rattle.lines.specs.declared.DeliveryLine.the-variants.{Read as DeliveryRead}
-use Rattle.lines.specs.declared.DirectLine.the-variants.{Read as DirectRead}
+use Rattle.read_lines.specs.Answers.{unitLine, purchaseLine, fixedLine, deliveryLine, directLine}
+use Rattle.read_lines.specs.Cut.{found, LabelStands, line-stands}
+use Rattle.read_lines.specs.declared.UnitLine.the-variants.{Read as UnitRead}
+use Rattle.read_lines.specs.declared.PurchaseLine.the-variants.{Read as PurchaseRead}
+use Rattle.read_lines.specs.declared.FixedLine.the-variants.{Read as FixedRead}
+use Rattle.read_lines.specs.declared.DeliveryLine.the-variants.{Read as DeliveryRead}
+use Rattle.read_lines.specs.declared.DirectLine.the-variants.{Read as DirectRead}
 
 abbrev place : ℕ → ℕ → Place
 place from upto = record { from = from; upto = upto }

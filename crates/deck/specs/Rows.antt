@@ -33,10 +33,10 @@ use Rattle.rules.specs.declared.Verdict.the-variants.{Accepted, Refused}
 use Rattle.laws.specs.Answers.{verdict-accepted}
 use Rattle.roundtrip.specs.Taken.{finished-passed}
 use Rattle.roundtrip.specs.Loop.{Going, goes-malformed, goes-end, goes-past}
-use Rattle.text.specs.Answers.{stepOf}
-use Rattle.hour.specs.Tried.{Tables, unitHigh, basisCode}
-use Rattle.hour.specs.Kept.{Kept}
-use Rattle.hour.specs.TablesKept.{noTables, kept-started}
+use Rattle.read_fields.specs.Answers.{stepOf}
+use Rattle.line_rules.specs.Tried.{Tables, unitHigh, basisCode}
+use Rattle.line_rules.specs.Kept.{Kept}
+use Rattle.line_rules.specs.TablesKept.{noTables, kept-started}
 use Rattle.deck.specs.Answers.{nowhere, bytesOf, Holds, Placed, Scanned, refusedScan}
 use Rattle.deck.specs.Steps.{endVerdict}
 use Rattle.deck.specs.Turns.{line-got, line-malformed, line-none, SourceTurn, DeliveryTurn, DirectTakes}

@@ -16,26 +16,26 @@ use Rattle.rules.specs.declared.Refusal.{Refusal}
 use Rattle.rules.specs.declared.Refusal.the-variants.{Form}
 use Rattle.rules.specs.declared.Verdict.{Verdict}
 use Rattle.rules.specs.declared.Verdict.the-variants.{Accepted, Refused}
-use Rattle.text.specs.declared.Step.{Step}
-use Rattle.text.specs.declared.Step.the-variants.{At, Missing}
-use Rattle.lines.specs.Answers.{unitLine, purchaseLine, fixedLine}
-use Rattle.lines.specs.declared.UnitLine.{UnitLine}
-use Rattle.lines.specs.declared.UnitLine.the-variants.{Read as UnitRead, Malformed as NoUnit}
-use Rattle.lines.specs.declared.PurchaseLine.{PurchaseLine}
-use Rattle.lines.specs.declared.PurchaseLine.the-variants.{Read as PurchaseRead, Malformed as NoPurchase}
-use Rattle.lines.specs.declared.FixedLine.{FixedLine}
-use Rattle.lines.specs.declared.FixedLine.the-variants.{Read as FixedRead, Malformed as NoFixed}
-use Rattle.lines.specs.declared.DeliveryLine.{DeliveryLine}
-use Rattle.lines.specs.declared.DeliveryLine.the-variants.{Read as DeliveryRead, Malformed as NoDelivery}
-use Rattle.lines.specs.declared.DirectLine.{DirectLine}
-use Rattle.lines.specs.declared.DirectLine.the-variants.{Read as DirectRead, Malformed as NoDirect}
+use Rattle.read_fields.specs.declared.Step.{Step}
+use Rattle.read_fields.specs.declared.Step.the-variants.{At, Missing}
+use Rattle.read_lines.specs.Answers.{unitLine, purchaseLine, fixedLine}
+use Rattle.read_lines.specs.declared.UnitLine.{UnitLine}
+use Rattle.read_lines.specs.declared.UnitLine.the-variants.{Read as UnitRead, Malformed as NoUnit}
+use Rattle.read_lines.specs.declared.PurchaseLine.{PurchaseLine}
+use Rattle.read_lines.specs.declared.PurchaseLine.the-variants.{Read as PurchaseRead, Malformed as NoPurchase}
+use Rattle.read_lines.specs.declared.FixedLine.{FixedLine}
+use Rattle.read_lines.specs.declared.FixedLine.the-variants.{Read as FixedRead, Malformed as NoFixed}
+use Rattle.read_lines.specs.declared.DeliveryLine.{DeliveryLine}
+use Rattle.read_lines.specs.declared.DeliveryLine.the-variants.{Read as DeliveryRead, Malformed as NoDelivery}
+use Rattle.read_lines.specs.declared.DirectLine.{DirectLine}
+use Rattle.read_lines.specs.declared.DirectLine.the-variants.{Read as DirectRead, Malformed as NoDirect}
 use Rattle.ranges.specs.Inside.{plantInside, judged, deliveryInside, directInside}
 use Rattle.ranges.specs.declared.JudgedUnit.{JudgedUnit}
 use Rattle.ranges.specs.declared.JudgedUnit.the-variants.{Inside, Outside}
-use Rattle.hour.specs.Keys.{keyOf}
-use Rattle.hour.specs.Tried.{entryOf, nextLine, sourceTried, deliveryTried, Tables, directTried}
-use Rattle.hour.specs.declared.Counts.{Counts}
-use Rattle.hour.specs.declared.Entry.the-variants.{Unnamed}
+use Rattle.line_rules.specs.Keys.{keyOf}
+use Rattle.line_rules.specs.Tried.{entryOf, nextLine, sourceTried, deliveryTried, Tables, directTried}
+use Rattle.line_rules.specs.declared.Counts.{Counts}
+use Rattle.line_rules.specs.declared.Entry.the-variants.{Unnamed}
 use Rattle.deck.specs.declared.SourceStep.{SourceStep}
 use Rattle.deck.specs.declared.DeliveryStep.{DeliveryStep}
 use Rattle.deck.specs.declared.DirectStep.{DirectStep}

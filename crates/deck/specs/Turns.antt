@@ -32,21 +32,21 @@ use Rattle.laws.specs.Answers.{verdict-accepted, verdict-refused}
 use Rattle.laws.specs.Choices.{false-not-true}
 use Rattle.roundtrip.specs.Loop.{Going, goes-malformed, goes-on, goes-refused}
 use Rattle.roundtrip.specs.Labels.{chars-label}
-use Rattle.lines.specs.Answers.{unitLine, purchaseLine, fixedLine, deliveryLine, directLine}
-use Rattle.lines.specs.Cut.{cutFields, ranged-cut, cut-ranged, LabelStands, line-stands}
+use Rattle.read_lines.specs.Answers.{unitLine, purchaseLine, fixedLine, deliveryLine, directLine}
+use Rattle.read_lines.specs.Cut.{cutFields, ranged-cut, cut-ranged, LabelStands, line-stands}
 use Rattle.ranges.specs.Inside.{plantInside, unitMade, deliveryInside, directInside}
 use Rattle.ranges.specs.declared.UnitNumbers.{UnitNumbers}
 use Rattle.ranges.specs.declared.JudgedUnit.the-variants.{Inside, Outside}
 use Rattle.ranges.specs.RangedIsInside.{unit-inside, purchase-inside, fixed-inside, delivery-inside, direct-inside}
-use Rattle.hour.specs.Keys.{keyOf}
-use Rattle.hour.specs.KeyTells.{labelled}
-use Rattle.hour.specs.Tried.{countsOf, nextLine, sourceTried, deliveryTried, Tables, directTried}
-use Rattle.hour.specs.Kept.{Kept}
-use Rattle.hour.specs.TriedIsTaken.{source-tried, delivery-tried, direct-tried}
-use Rattle.hour.specs.TablesKept.{entry-named, entry-unnamed, source-let, delivery-let, direct-let, sourceAdded, kept-source, deliveryAdded, kept-delivery, directAdded, kept-direct}
-use Rattle.hour.specs.declared.Key.{Key}
-use Rattle.hour.specs.declared.DirectLine.{DirectLine}
-use Rattle.hour.specs.declared.Entry.the-variants.{Named, Unnamed}
+use Rattle.line_rules.specs.Keys.{keyOf}
+use Rattle.line_rules.specs.KeyTells.{labelled}
+use Rattle.line_rules.specs.Tried.{countsOf, nextLine, sourceTried, deliveryTried, Tables, directTried}
+use Rattle.line_rules.specs.Kept.{Kept}
+use Rattle.line_rules.specs.TriedIsTaken.{source-tried, delivery-tried, direct-tried}
+use Rattle.line_rules.specs.TablesKept.{entry-named, entry-unnamed, source-let, delivery-let, direct-let, sourceAdded, kept-source, deliveryAdded, kept-delivery, directAdded, kept-direct}
+use Rattle.line_rules.specs.declared.Key.{Key}
+use Rattle.line_rules.specs.declared.DirectLine.{DirectLine}
+use Rattle.line_rules.specs.declared.Entry.the-variants.{Named, Unnamed}
 use Rattle.deck.specs.Answers.{Holds}
 use Rattle.deck.specs.Steps as steps
 use Rattle.deck.specs.Steps.{sourceRefused, sourceStep, judgedStep, unitStep, purchaseStep, fixedStep, sourceFrom, deliveryTook, deliveryStep, directTook, directStep}

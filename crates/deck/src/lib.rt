@@ -10,24 +10,25 @@ ghost use Rattle.rules.specs.Record.{started, blankSource, blankDelivery, label
 ghost use Rattle.rules.specs.Fields.{byteAt, charsAt};
 ghost use Rattle.rules.specs.Reading.{reading, linesFrom};
 ghost use Rattle.rules.specs.Calls.{sourcePart, deliveryPart};
-ghost use Rattle.text.specs.Answers.{stepOf};
-ghost use Rattle.lines.specs.Answers.{unitLine, purchaseLine, fixedLine, deliveryLine, directLine};
-ghost use Rattle.lines.specs.Cut.{LabelStands};
-ghost use Rattle.hour.specs.Keys.{keyOf};
-ghost use Rattle.hour.specs.Tried.{Few};
+ghost use Rattle.read_fields.specs.Answers.{stepOf};
+ghost use Rattle.read_lines.specs.Answers.{unitLine, purchaseLine, fixedLine, deliveryLine, directLine};
+ghost use Rattle.read_lines.specs.Cut.{LabelStands};
+ghost use Rattle.line_rules.specs.Keys.{keyOf};
+ghost use Rattle.line_rules.specs.Tried.{Few};
 ghost use Rattle.deck.specs.Answers.{readAnswer, bytesOf, refusedScan, Scanned};
 ghost use Rattle.deck.specs.FirstLine.{headRefused, headStep, readerAt, rowsAfter};
 ghost use Rattle.deck.specs.Steps.{sourceStep, sourceRefused, unitStep, purchaseStep, fixedStep, sourceFrom, deliveryRefused, deliveryStep, directStep, endVerdict};
-use hour::Counts;
-use hour::Entry;
-use hour::Key;
-use lines::DeliveryLine;
-use lines::DirectLine;
-use lines::FixedLine;
-use lines::HeadLine;
-use lines::PurchaseLine;
-use lines::UnitLine;
+use line_rules::Counts;
+use line_rules::Entry;
+use line_rules::Key;
 use ranges::JudgedUnit;
+use read_fields::Step;
+use read_lines::DeliveryLine;
+use read_lines::DirectLine;
+use read_lines::FixedLine;
+use read_lines::HeadLine;
+use read_lines::PurchaseLine;
+use read_lines::UnitLine;
 use rules::Basis;
 use rules::Delivery;
 use rules::Direct;
@@ -38,7 +39,6 @@ use rules::Plant;
 use rules::Refusal;
 use rules::Source;
 use rules::Verdict;
-use text::Step;
 
 // Where a label's own bytes start and end.
 pub struct Place {
@@ -194,9 +194,9 @@ fn try_source(
     requires { ⌜ Few n × LabelStands (now s) (record { from = from; upto = upto }) ⌝ }
     ensures { λ r. ⌜ r ≡ sourceStep (now (s .entry)) n (now (lo .entry)) (now (hi .entry)) ranged plant (record { from = from; upto = upto }) next ⌝ }
 {
-    let label = text::label_at(&s[from..upto]);
-    let key = hour::key_of(label);
-    let verdict = hour::take_source(n, ranged, plant, key, lo, hi);
+    let label = read_fields::label_at(&s[from..upto]);
+    let key = line_rules::key_of(label);
+    let verdict = line_rules::take_source(n, ranged, plant, key, lo, hi);
     SourceStep {
         verdict,
         entry: Source { plant, label },
@@ -210,8 +210,8 @@ fn unit_at(s: &[u8], at: usize, n: Counts, lo: &[u64; 32], hi: &[u64; 32]) -> So
     requires { ⌜ Few n ⌝ }
     ensures { λ r. ⌜ r ≡ unitStep (now (s .entry)) n (now (lo .entry)) (now (hi .entry)) (unitLine (placesAt (now (s .entry)) at U)) ⌝ }
 {
-    let UnitLine::Read(x, from, upto, next) = lines::unit(s, at) else {
-        let line = hour::next_line(n);
+    let UnitLine::Read(x, from, upto, next) = read_lines::unit(s, at) else {
+        let line = line_rules::next_line(n);
         return source_refused(Refusal::Form(line));
     };
     let JudgedUnit::Inside(u) = ranges::judge_unit(x) else {
@@ -224,8 +224,8 @@ fn purchase_at(s: &[u8], at: usize, n: Counts, lo: &[u64; 32], hi: &[u64; 32]) -
     requires { ⌜ Few n ⌝ }
     ensures { λ r. ⌜ r ≡ purchaseStep (now (s .entry)) n (now (lo .entry)) (now (hi .entry)) (purchaseLine (placesAt (now (s .entry)) at P)) ⌝ }
 {
-    let PurchaseLine::Read(g, rate, from, upto, next) = lines::purchase(s, at) else {
-        let line = hour::next_line(n);
+    let PurchaseLine::Read(g, rate, from, upto, next) = read_lines::purchase(s, at) else {
+        let line = line_rules::next_line(n);
         return source_refused(Refusal::Form(line));
     };
     let plant = Plant::Purchase { g, rate };
@@ -237,8 +237,8 @@ fn fixed_at(s: &[u8], at: usize, n: Counts, lo: &[u64; 32], hi: &[u64; 32]) -> S
     requires { ⌜ Few n ⌝ }
     ensures { λ r. ⌜ r ≡ fixedStep (now (s .entry)) n (now (lo .entry)) (now (hi .entry)) (fixedLine (placesAt (now (s .entry)) at F)) ⌝ }
 {
-    let FixedLine::Read(g, from, upto, next) = lines::fixed(s, at) else {
-        let line = hour::next_line(n);
+    let FixedLine::Read(g, from, upto, next) = read_lines::fixed(s, at) else {
+        let line = line_rules::next_line(n);
         return source_refused(Refusal::Form(line));
     };
     let plant = Plant::Fixed { g };
@@ -267,7 +267,7 @@ fn source_at(
     if letter == b'F' {
         return fixed_at(s, at, n, lo, hi);
     }
-    let line = hour::next_line(n);
+    let line = line_rules::next_line(n);
     source_refused(Refusal::Form(line))
 }
 
@@ -290,15 +290,17 @@ fn delivery_at(s: &[u8], at: usize, n: Counts, lo: &[u64; 32], hi: &[u64; 32]) -
     requires { ⌜ Few n ⌝ }
     ensures { λ r. ⌜ r ≡ deliveryStep (now (s .entry)) n (now (lo .entry)) (now (hi .entry)) (deliveryLine (placesAt (now (s .entry)) at T)) ⌝ }
 {
-    let DeliveryLine::Read(sequence, kind, block, mwh, from, upto, next) = lines::delivery(s, at)
-    else {
-        let line = hour::next_line(n);
+    let DeliveryLine::Read(sequence, kind, block, mwh, from, upto, next) = read_lines::delivery(
+        s,
+        at,
+    ) else {
+        let line = line_rules::next_line(n);
         return delivery_refused(Refusal::Form(line));
     };
-    let label = text::label_at(&s[from..upto]);
-    let key = hour::key_of(label);
+    let label = read_fields::label_at(&s[from..upto]);
+    let key = line_rules::key_of(label);
     let ranged = ranges::delivery_in_range(sequence, kind, block, mwh);
-    let verdict = hour::take_delivery(n, ranged, key, lo, hi);
+    let verdict = line_rules::take_delivery(n, ranged, key, lo, hi);
     DeliveryStep {
         verdict,
         entry: Delivery {
@@ -320,8 +322,8 @@ fn key_at(s: &[u8], from: usize, upto: usize) -> Key
     requires { ⌜ LabelStands (now s) (record { from = from; upto = upto }) ⌝ }
     ensures { λ r. ⌜ r ≡ keyOf (labelOf (charsAt (now (s .entry)) (record { from = from; upto = upto }))) ⌝ }
 {
-    let label = text::label_at(&s[from..upto]);
-    hour::key_of(label)
+    let label = read_fields::label_at(&s[from..upto]);
+    line_rules::key_of(label)
 }
 
 fn direct_at(
@@ -339,8 +341,9 @@ fn direct_at(
     requires { ⌜ Few n ⌝ }
     ensures { λ r. ⌜ r ≡ directStep (now (s .entry)) n (record { slo = now (slo .entry); shi = now (shi .entry); tlo = now (tlo .entry); thi = now (thi .entry); high = now (high .entry); based = now (based .entry); percents = now (percents .entry) }) (directLine (placesAt (now (s .entry)) at D)) ⌝ }
 {
-    let DirectLine::Read(basis, percent, from, upto, begin, end, next) = lines::direct(s, at) else {
-        let line = hour::next_line(n);
+    let DirectLine::Read(basis, percent, from, upto, begin, end, next) = read_lines::direct(s, at)
+    else {
+        let line = line_rules::next_line(n);
         return DirectStep {
             entry: Entry::Unnamed(Refusal::Form(line)),
             next: 0,
@@ -349,13 +352,13 @@ fn direct_at(
     let unit = key_at(s, from, upto);
     let delivery = key_at(s, begin, end);
     let ranged = ranges::direct_in_range(basis, percent);
-    let x = hour::DirectLine {
+    let x = line_rules::DirectLine {
         basis,
         percent,
         unit,
         delivery,
     };
-    let entry = hour::take_direct(n, ranged, x, slo, shi, tlo, thi, high, based, percents);
+    let entry = line_rules::take_direct(n, ranged, x, slo, shi, tlo, thi, high, based, percents);
     DirectStep { entry, next }
 }
 
@@ -364,7 +367,7 @@ fn end_at(s: &[u8], at: usize, line: usize) -> Verdict
     requires { ⌜ line < 100 ⌝ }
     ensures { λ r. ⌜ r ≡ endVerdict (length (now (s .entry))) line (stepOf (byteAt (now (s .entry)) at 10)) ⌝ }
 {
-    let Step::At(p) = text::byte(s, at, b'\n') else {
+    let Step::At(p) = read_fields::byte(s, at, b'\n') else {
         return Verdict::Refused(Refusal::Form(line));
     };
     if p != s.len() {
@@ -417,7 +420,7 @@ fn rows(s: &[u8], losses: u32, from: usize) -> ScannedDeck
                 Entry::Named(d) => {
                     let i = d.source;
                     let b = d.basis;
-                    based[i] = hour::basis_code(b);
+                    based[i] = line_rules::basis_code(b);
                     percents[i] = percents[i] + d.percent;
                     let m = h.ndirects;
                     h.directs[m] = d;
@@ -442,12 +445,12 @@ fn rows(s: &[u8], losses: u32, from: usize) -> ScannedDeck
             h.ndeliveries = m + 1;
             at = x.next;
         } else if letter == b'E' {
-            let line = hour::next_line(n);
+            let line = line_rules::next_line(n);
             let v = end_at(s, at + 1, line);
             if let Verdict::Refused(r) = v {
                 return refused(r);
             }
-            let w = hour::finish(h);
+            let w = line_rules::finish(h);
             if let Verdict::Refused(r) = w {
                 return refused(r);
             }
@@ -469,7 +472,7 @@ fn rows(s: &[u8], losses: u32, from: usize) -> ScannedDeck
             shi[m] = k.hi;
             let e = x.entry;
             let p = e.plant;
-            high[m] = hour::unit_high(p);
+            high[m] = line_rules::unit_high(p);
             let place = x.place;
             sources[m] = place;
             h.sources[m] = e;
@@ -477,7 +480,7 @@ fn rows(s: &[u8], losses: u32, from: usize) -> ScannedDeck
             at = x.next;
         }
     }
-    let line = hour::next_line(Counts {
+    let line = line_rules::next_line(Counts {
         sources: h.nsources,
         deliveries: h.ndeliveries,
         directs: h.ndirects,
@@ -503,10 +506,10 @@ fn head_at(s: &[u8], at: usize) -> HeadStep
     if 8192 < s.len() {
         return head_refused(Refusal::TooLong);
     }
-    let Step::At(p) = text::byte(s, at, b'H') else {
+    let Step::At(p) = read_fields::byte(s, at, b'H') else {
         return head_refused(Refusal::Form(1));
     };
-    let HeadLine::Read(losses, end) = lines::head(s, p) else {
+    let HeadLine::Read(losses, end) = read_lines::head(s, p) else {
         return head_refused(Refusal::Form(1));
     };
     if !ranges::losses_in_range(losses) {

@@ -9,7 +9,7 @@ use native.Mathlib.Numerals.{add-one}
 use native.Mathlib.Omega.{arith}
 use Rattle.dispatch.specs.Taken.{First, first-strict, Highest}
 use Rattle.laws.specs.Sums.{below-suc}
-use Rattle.marks.specs.Lines.{at}
+use Rattle.cutoff.specs.Lines.{at}
 use Rattle.merit.specs.Best.{Best, best-skip, best-keep, best-take, best-only}
 use Rattle.merit.specs.Settled.{more, more-strict, Beats, beats-trans}
 

@@ -13,7 +13,7 @@ use lib.Seq.{getD-set-same, getD-set-other}
 use Rattle.dispatch.proofs.Taking.{taken-more}
 use Rattle.dispatch.specs.Taken.{First, merit, Next, Left, Small, Highest, Choice, Block, Passed, Turn, Going, Level, Turns}
 use Rattle.laws.specs.Sums.{below-suc}
-use Rattle.marks.specs.Lines.{at}
+use Rattle.cutoff.specs.Lines.{at}
 use Rattle.merit.specs.Settled.{more, Beats}
 
 -- The merits of what is left, filled from the front, and changed with what is taken.

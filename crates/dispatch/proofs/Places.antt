@@ -12,7 +12,7 @@ use Rattle.dispatch.proofs.Taking.{zeros}
 use Rattle.dispatch.specs.Rivals.{Bar, Places, Rivals, Gathered, Spread}
 use Rattle.dispatch.specs.Taken.{Next}
 use Rattle.laws.specs.Sums.{below-suc, sumTo-but, sumTo-more, sumTo-none, sumTo-zero}
-use Rattle.marks.specs.Lines.{at, Falls}
+use Rattle.cutoff.specs.Lines.{at, Falls}
 use Rattle.rules.specs.Words.{sumTo}
 
 module _ (one step cap : List ℕ) (total : ℕ) where

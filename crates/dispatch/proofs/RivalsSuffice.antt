@@ -13,7 +13,7 @@ use Rattle.dispatch.proofs.Taking.{zeros}
 use Rattle.dispatch.specs.Rivals.{Alone, Rivals, Gathered, Spread}
 use Rattle.dispatch.specs.Taken.{First, merit, Sources, Taken}
 use Rattle.laws.specs.Sums.{sumTo-but, sumTo-part, sumTo-zero}
-use Rattle.marks.specs.Lines.{at}
+use Rattle.cutoff.specs.Lines.{at}
 use Rattle.merit.specs.Settled.{more, Beats}
 use Rattle.rules.specs.Words as Words
 use Rattle.rules.specs.Words.{sumTo}

@@ -7,7 +7,7 @@ use native.Mathlib.Omega.{arith}
 use lib.ListN.{length, set}
 use lib.Seq.{getD-set-same, getD-set-other}
 use Rattle.laws.specs.Sums.{below-suc}
-use Rattle.marks.specs.Lines.{at, Source, Table}
+use Rattle.cutoff.specs.Lines.{at, Source, Table}
 
 module _ {one step cap : List ℕ} where
   pub table-none : {span inv : List ℕ} → Table one step span inv cap 0

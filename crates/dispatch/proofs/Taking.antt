@@ -12,8 +12,8 @@ use lib.ListN.{length, set, replicate, length-set, getD-replicate, List·getD-eq
 use lib.Seq.{getD-set-same, getD-set-other}
 use Rattle.dispatch.specs.Taken.{First, first-strict, merit, merits-fall, Taken, Choice, Block, Above}
 use Rattle.laws.specs.Sums.{below-suc, sumTo-most, sumTo-same, sumTo-zero, sumTo-but}
-use Rattle.marks.specs.Lines.{at, Table, Marked, stockAt}
-use Rattle.marks.specs.Tally.{stock-counted}
+use Rattle.cutoff.specs.Lines.{at, Table, Marked, stockAt}
+use Rattle.cutoff.specs.Tally.{stock-counted}
 use Rattle.merit.specs.Settled.{more, more-strict, settled-block}
 use Rattle.rules.specs.Words.{sumTo}
 

@@ -5,7 +5,7 @@ use mathlib.Core.Path.{_≡_, refl, _∙_}
 use Prim.Native.Nat.{ℕ, _+_, _*_, _-_, _^_, _≤_, _<_}
 use native.Mathlib.Nat.{mul-le-mul, mul-le-mul-left}
 use native.Mathlib.Omega.{arith}
-use Rattle.marks.specs.Lines.{Falls}
+use Rattle.cutoff.specs.Lines.{Falls}
 use Rattle.merit.specs.PricesRise as PricesRise
 use Rattle.merit.specs.PricesRise.{price, curvePrice}
 use Rattle.rules.specs.declared.Plant.the-variants.{Unit as U, Purchase as P, Fixed as F}

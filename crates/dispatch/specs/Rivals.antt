@@ -4,7 +4,7 @@ use mathlib.Core.Logic.{_≢_}
 use mathlib.Core.Path.{_≡_}
 use Prim.Native.Nat.{ℕ, _+_, _*_, _-_, _≤_, _<_}
 use lib.ListN.{length}
-use Rattle.marks.specs.Lines.{at}
+use Rattle.cutoff.specs.Lines.{at}
 use Rattle.rules.specs.Words.{sumTo}
 
 -- source i has room for the total, and the bar is one more than the merit of the total's last MWh

@@ -9,7 +9,7 @@ use native.Mathlib.Nat.{mul-le-mul-left}
 use native.Mathlib.Omega.{arith}
 use lib.ListN.{length}
 use lib.Seq.{ext-getD}
-use Rattle.marks.specs.Lines.{at, Falls, Table, stockAt}
+use Rattle.cutoff.specs.Lines.{at, Falls, Table, stockAt}
 use Rattle.merit.specs.Best.{Best}
 use Rattle.merit.specs.Settled.{Strict, less, more, less-strict, more-strict, Beats, BestUnit, Plain, Falling, Settled, settled-one, settled-plain}
 use Rattle.rules.specs.Words.{sumTo}

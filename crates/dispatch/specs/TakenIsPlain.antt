@@ -10,7 +10,7 @@ use lib.Seq.{getD-set-same, getD-set-other}
 use Rattle.dispatch.specs.LinesOfPrices.{Lined}
 use Rattle.dispatch.specs.Taken.{merit, Sources, Taken}
 use Rattle.laws.specs.Sums.{below-suc}
-use Rattle.marks.specs.Lines.{at}
+use Rattle.cutoff.specs.Lines.{at}
 use Rattle.merit.specs.LevelNeverBelowB.{Sound, stateAt}
 use Rattle.merit.specs.PlainIsSettled.{priceDown, priceUp, unload-whole, credit-whole}
 use Rattle.merit.specs.PricesRise.{price}

@@ -6,7 +6,7 @@ ghost use mathlib.Core.Path.{_≡_};
 ghost use Prim.Native.Nat.{_+_, _*_, _≤_, _<_, _^_};
 ghost use lib.ListN.{length, replicate};
 ghost use Rattle.rules.specs.Words.{sumTo};
-ghost use Rattle.marks.specs.Lines.{at, Falls, Source, Table, Scales};
+ghost use Rattle.cutoff.specs.Lines.{at, Falls, Source, Table, Scales};
 ghost use Rattle.dispatch.specs.LinesOfPrices.{Numbers, Lined, linePrice};
 ghost use Rattle.dispatch.specs.Taken.{Sources, Taken, Next, Left, Small, Highest, Turn, Turns, Going, Level, Block, Above};
 ghost use Rattle.dispatch.specs.Rivals.{Bar, Places, Rivals, Gathered, Spread};
@@ -157,7 +157,7 @@ fn take_above(
     while i < n {
         let o = one[i];
         let d = step[i];
-        let k = marks::count(o, d, span[i], inv[i], mark);
+        let k = cutoff::count(o, d, span[i], inv[i], mark);
         let m = next(o, d, cap[i], k);
         taken[i] = k;
         left[i] = m;
@@ -173,7 +173,7 @@ fn block(step: u64, cap: u64, k: u64, rest: u64) -> u64
     if 0 < step {
         return 1;
     }
-    marks::least(rest, cap - k)
+    cutoff::least(rest, cap - k)
 }
 
 // The i-th source in the turn at a tie.
@@ -266,7 +266,7 @@ fn take_best(
     requires blank { ⌜ now taken ≡ replicate 32 0 ⌝ }
     ensures { λ _. ⌜ Taken up (now (one .entry)) (now (step .entry)) (now (cap .entry)) n total (now (taken .exit)) ⌝ }
 {
-    let p = marks::find_mark(one, step, span, inv, cap, n, total);
+    let p = cutoff::find_mark(one, step, span, inv, cap, n, total);
     let mut left: [u64; 32] = [0; 32];
     take_above(one, step, span, inv, cap, n, p.merit, taken, &mut left);
     let mut sum = p.sum;
@@ -289,8 +289,8 @@ fn shaped(one: u64, step: u64, cap: u64) -> Shape
 {
     if step == 0 {
         return Shape {
-            span: marks::least(1, cap),
-            inv: marks::less(cap, 1) * 1099511627776,
+            span: cutoff::least(1, cap),
+            inv: cutoff::less(cap, 1) * 1099511627776,
         };
     }
     Shape {
@@ -347,7 +347,7 @@ fn best_last(one: &[u64; 32], step: &[u64; 32], cap: &[u64; 32], n: usize, total
     requires { ⌜ Sources (now one) (now step) (now cap) n ⌝ }
     ensures { λ b. ⌜ Bar (now (one .entry)) (now (step .entry)) (now (cap .entry)) n total b ⌝ }
 {
-    let last = marks::less(total, 1);
+    let last = cutoff::less(total, 1);
     let mut bar: u64 = 0;
     let mut i = 0;
     while i < n {

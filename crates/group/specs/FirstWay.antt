@@ -19,7 +19,7 @@ use Rattle.ladder.specs.Ways as ways
 use Rattle.ladder.specs.declared.Way.the-variants.{Down, Up}
 use Rattle.laws.specs.Choices.{false-not-true}
 use Rattle.laws.specs.Sums.{below-suc, sumTo-same}
-use Rattle.marks.specs.Lines.{at}
+use Rattle.cutoff.specs.Lines.{at}
 use Rattle.merit.specs.LevelNeverBelowB.{stateAt}
 use Rattle.merit.specs.RemainderMoves.{room-last}
 use Rattle.merit.specs.RemainderMoves as moves
@@ -28,7 +28,7 @@ use Rattle.rules.specs.Refusals.{accepted}
 use Rattle.rules.specs.Words.{sumTo}
 use Rattle.rules.specs.declared.InternalSequence.{InternalSequence}
 use Rattle.rules.specs.declared.Running.{Running}
-use Rattle.shift.specs.Ready.{Ready, Within, AllReady, Shifted, shifted, shift-ready, stepOf}
+use Rattle.ladder.specs.Ready.{Ready, Within, AllReady, Shifted, shifted, shift-ready, stepOf}
 
 -- one of two, by the side of a remainder
 abbrev pub pick : {A : Type 0} → Bool → A → A → A

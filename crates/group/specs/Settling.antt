@@ -25,7 +25,7 @@ use Rattle.rules.specs.declared.Running.{Running}
 use Rattle.rules.specs.declared.Verdict.{Verdict}
 use Rattle.rules.specs.declared.Verdict.the-variants.{Accepted}
 use Rattle.rules.specs.Answers.{verdictOf}
-use Rattle.shift.specs.Ready.{AllReady}
+use Rattle.ladder.specs.Ready.{AllReady}
 
 -- the states after it; refused: as they were
 abbrev pub statesOf : List Running → Outcome (List Running) → List Running

@@ -7,9 +7,9 @@ ghost use mathlib.Core.Path.{_≡_};
 ghost use Prim.Native.Nat.{_<_};
 ghost use lib.ListN.{length, replicate};
 ghost use Rattle.rules.specs.Words.{sumTo};
-ghost use Rattle.marks.specs.Lines.{at};
+ghost use Rattle.cutoff.specs.Lines.{at};
 ghost use Rattle.dispatch.specs.Taken.{Sources};
-ghost use Rattle.shift.specs.Ready.{Ready, AllReady};
+ghost use Rattle.ladder.specs.Ready.{Ready, AllReady};
 ghost use Rattle.group.specs.FirstWay.{pick, RoomsSmall, FirstTaken, Renewed, FirstLines};
 
 fn sum_of(cap: &[u64; 32], n: usize) -> u64
@@ -43,7 +43,7 @@ fn take_within(
     if sum_of(cap, n) < rest {
         return false;
     }
-    shift::take(by_price, up, one, step, cap, n, rest, taken);
+    ladder::shift::take(by_price, up, one, step, cap, n, rest, taken);
     true
 }
 
@@ -104,7 +104,7 @@ pub fn line_up(
     while i < n {
         let s = states[i];
         let p = s.plant;
-        step[i] = shift::step_of(p);
+        step[i] = ladder::shift::step_of(p);
         renew(down, room, above, head, i, s);
         i += 1;
     }

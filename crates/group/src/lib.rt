@@ -17,7 +17,7 @@ ghost use Rattle.rules.specs.Units.{normalLow, generation};
 ghost use Rattle.rules.specs.Group.{basis, basic, withBasic, directed, remainder};
 ghost use Rattle.merit.specs.LevelNeverBelowB.{Sound};
 ghost use Rattle.merit.specs.NumbersStaySmall.{Small};
-ghost use Rattle.shift.specs.Ready.{AllReady};
+ghost use Rattle.ladder.specs.Ready.{AllReady};
 ghost use Rattle.group.specs.Settling.{settled, apart, tries, wayAt, Short, outcome};
 
 // What a remainder comes to, and the states after it; where it is refused, as they were.
@@ -203,19 +203,19 @@ pub fn settle(
         while i < n {
             let s = end.states[i];
             let p = s.plant;
-            step[i] = shift::step_of(p);
+            step[i] = ladder::shift::step_of(p);
             sum += ladder::set_line(way, &mut one, &mut cap, i, s);
             i += 1;
         }
         if rest <= sum {
             let mut taken: [u64; 32] = [0; 32];
-            shift::take(by_price, up, &one, &step, &cap, n, rest, &mut taken);
+            ladder::shift::take(by_price, up, &one, &step, &cap, n, rest, &mut taken);
             let mut k = 0;
             while k < n {
                 let t = taken[k];
                 if 0 < t {
                     let s = end.states[k];
-                    end.states[k] = shift::shift_one(up, s, t);
+                    end.states[k] = ladder::shift::shift_one(up, s, t);
                 }
                 k += 1;
             }

@@ -26,7 +26,7 @@ use Rattle.rules.specs.declared.Plant.{Plant}
 use Rattle.rules.specs.declared.Plant.the-variants.{Unit as U, Purchase as P, Fixed as F}
 use Rattle.rules.specs.declared.Running.{Running}
 use Rattle.rules.specs.declared.Unit as unit
-use Rattle.shift.specs.Ready.{Ready, AllReady, Shifted, shift-ready}
+use Rattle.ladder.specs.Ready.{Ready, AllReady, Shifted, shift-ready}
 
 -- The room of units alone.
 

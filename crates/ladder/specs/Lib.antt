@@ -1,2 +1,3 @@
+pub mod Ready
 pub mod Ways
 pub mod LastStep

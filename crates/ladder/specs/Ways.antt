@@ -17,7 +17,7 @@ use Rattle.ladder.specs.declared.Way.{Way}
 use Rattle.ladder.specs.declared.Way.the-variants.{Down, Up}
 use Rattle.laws.specs.Choices.{false-not-true}
 use Rattle.laws.specs.Sums.{sumTo-same}
-use Rattle.marks.specs.Lines.{at}
+use Rattle.cutoff.specs.Lines.{at}
 use Rattle.merit.specs.LevelNeverBelowB.{stateAt}
 use Rattle.merit.specs.PricesRise.{price}
 use Rattle.merit.specs.RemainderMoves.{room-open}
@@ -25,7 +25,7 @@ use Rattle.rules.specs.Group.{noRunning, level, room, normal, oil, emergency, l
 use Rattle.rules.specs.Group as Group
 use Rattle.rules.specs.Words.{sumTo}
 use Rattle.rules.specs.declared.Running.{Running}
-use Rattle.shift.specs.Ready.{stepOf, Ready, Within, AllReady, AllWithin, Shifted, lowered-within, raised-within}
+use Rattle.ladder.specs.Ready.{stepOf, Ready, Within, AllReady, AllWithin, Shifted, lowered-within, raised-within}
 
 -- of the last step the room alone, above its floors; it goes by averages (LastStep), the others by prices
 abbrev pub downOf : Rung → Group.Way

@@ -1,12 +1,14 @@
 // A remainder's ways: the room of a source and of all, by each, and a source's line; and the ladder's last step.
 // The contracts cite rules' Group: `all`, `plain`, `lastStep` and `toEmergency`, and specs/ for what an engine makes of a way's lines.
+pub mod shift;
+
 use curve::Rung;
 use rules::Plant;
 use rules::Running;
 ghost use mathlib.Core.Path.{_≡_};
 ghost use Prim.Native.Nat.{_+_, _≤_, _<_};
 ghost use Rattle.rules.specs.Group.{all, room, emergency, last, unitRoom, plain, lastStep, toEmergency};
-ghost use Rattle.shift.specs.Ready.{Ready, AllReady};
+ghost use Rattle.ladder.specs.Ready.{Ready, AllReady};
 ghost use Rattle.ladder.specs.Ways.{wayOf, upOf, LineSet};
 ghost use Rattle.ladder.specs.LastStep.{before, Chosen};
 
@@ -138,7 +140,7 @@ fn last_step(states: [Running; 32], n: usize, total: u64) -> [Running; 32]
         let i = dearest(after, n);
         let s = after[i];
         let room = unit_room(s);
-        let k = marks::least(room, rest);
+        let k = cutoff::least(room, rest);
         after[i] = shift::shift_one(false, s, k);
         rest -= k;
     }

@@ -19,7 +19,7 @@ use Rattle.rules.specs.Hour.{internalAt, member, scheduled, counted, share}
 use Rattle.rules.specs.Sequences.{sameNumber}
 use Rattle.rules.specs.declared.Hour.{Hour}
 use Rattle.rules.specs.declared.InternalSequence.{InternalSequence}
-use Rattle.shares.specs.Sharing.{member-share}
+use Rattle.members.specs.Sharing.{member-share}
 
 never : {b : Bool} → b ≡ true → b ≡ false → ⊥
 never e f = let z : _≡_ {A = ℕ} 0 1 = cc in omega arith

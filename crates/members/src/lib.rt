@@ -1,5 +1,7 @@
 // The members of a group: its MWh, its first member, and the members' shares of what it takes, written into the hour's cells.
 // The contracts cite `upTo` of rules' Group and specs/, which has them in the hour's words; amounts are read from the rows that `amounts` keeps.
+mod shares;
+
 use rules::InternalSequence;
 ghost use mathlib.Core.Bool.{false};
 ghost use mathlib.Core.Path.{_≡_};

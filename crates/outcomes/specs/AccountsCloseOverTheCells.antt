@@ -11,8 +11,8 @@ use lib.IntN.{ℤ, pos, _+ℤ_}
 use lib.ListN.{length, drop, List·getD-append}
 use mir.Syntax.{w64}
 use mir.Val.{SFits}
-use Rattle.accounts.specs.AccountsClose.{accounts-close}
-use Rattle.accounts.specs.EveryCellFits.{every-cell-fits}
+use Rattle.balance.specs.AccountsClose.{accounts-close}
+use Rattle.balance.specs.EveryCellFits.{every-cell-fits}
 use Rattle.balance.specs.AnswerCells.{cellAt, pairPlace, openPlace, answer-length}
 use Rattle.balance.specs.Balance.{Balances}
 use Rattle.laws.specs.Choices.{not-false, refuse-passed}

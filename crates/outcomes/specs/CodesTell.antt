@@ -11,7 +11,7 @@ use borrow.Author.Tests.{leb-false}
 use lib.Dec.{eqb, leb, ltb}
 use lib.ListN.{length}
 use Rattle.balance.specs.RefusedExactly.{unload-refused, credit-refused}
-use Rattle.codes.specs.Codes.{codeOf}
+use Rattle.refusals.specs.Codes.{codeOf}
 use Rattle.laws.specs.Lists.{findTo-passes}
 use Rattle.rules.specs.Calls as calls
 use Rattle.rules.specs.Calls.{reconstruction}

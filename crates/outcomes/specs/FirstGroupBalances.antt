@@ -11,7 +11,7 @@ use Rattle.rules.specs.Hour.{numbers, internalAt, groups, cellsOf}
 use Rattle.rules.specs.Writing.{valid}
 use Rattle.rules.specs.declared.Hour.{Hour}
 use Rattle.rules.specs.declared.InternalSequence.{InternalSequence}
-use Rattle.accounts.specs.ValidHour.{valid-balances}
+use Rattle.balance.specs.ValidHour.{valid-balances}
 use Rattle.balance.specs.Balance.{Balances, cells-balance}
 use Rattle.balance.specs.HourBalances.{groups-balanced}
 use Rattle.laws.specs.Choices.{Both, then-passed, accepted-same}

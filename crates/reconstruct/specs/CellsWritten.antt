@@ -18,7 +18,7 @@ use Rattle.rules.specs.Group.{Item, directMwh, incrementalMwh, directCost, incr
 use Rattle.rules.specs.Hour.{Cells, Progress, pairCells, openCells, cellsOf, cellCount}
 use Rattle.rules.specs.declared.Hour.{Hour}
 use Rattle.rules.specs.declared.Running.{Running}
-use Rattle.shift.specs.Ready.{Ready, AllReady}
+use Rattle.ladder.specs.Ready.{Ready, AllReady}
 
 -- lent cells that have what a run has given
 pub record Held (h : Hour) (xs : List ℤ) (cells : Cells) : Type 0 where

@@ -9,7 +9,7 @@ use borrow.Author.Tests.{lt-ltb, le-ltb}
 use lib.IntN.{ℤ, pos}
 use lib.ListN.{length, getD, take, drop, length-drop, take-append-drop}
 use lib.Seq.{getD-drop, ext-getD}
-use Rattle.accounts.specs.EveryGroupIsDone.{every-group-is-done}
+use Rattle.balance.specs.EveryGroupIsDone.{every-group-is-done}
 use Rattle.amounts.specs.Amounts.{told}
 use Rattle.balance.specs.AnswerCells.{cellAt, cells-length}
 use Rattle.group.specs.declared.Settled.{Settled}
@@ -34,10 +34,10 @@ use Rattle.rules.specs.declared.Written.{Written}
 use Rattle.rules.specs.declared.Written.the-variants.{Count, Refused}
 use Rattle.sequence.specs.Placings.{Placeable, placings, placings-same}
 use Rattle.sequence.specs.SameGroups.{same-groups}
-use Rattle.turns.specs.GroupTurns.{Turned}
-use Rattle.turns.specs.GroupsOneByOne.{Reached}
-use Rattle.turns.specs.MwhsListed.{deliveries-small}
-use Rattle.turns.specs.StatesStayReady.{groups-stand}
+use Rattle.groups.specs.GroupTurns.{Turned}
+use Rattle.groups.specs.GroupsOneByOne.{Reached}
+use Rattle.groups.specs.MwhsListed.{deliveries-small}
+use Rattle.groups.specs.StatesStayReady.{groups-stand}
 
 -- what is answered, and what is left of the lent cells
 abbrev pub Answers : Hour → List ℤ → Written → List ℤ → Type 0

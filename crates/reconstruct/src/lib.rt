@@ -68,7 +68,7 @@ fn run(h: Hour, out: &mut [i64], by_price: bool) -> Written
     let mut led: [u64; 32] = [0; 32];
     let mut direct: [u64; 1024] = [0; 1024];
     let mut moved: [u64; 1024] = [0; 1024];
-    let end = turns::take_turns(
+    let end = groups::take_turns(
         h,
         placed,
         by_price,

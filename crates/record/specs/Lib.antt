@@ -1,3 +1,6 @@
+pub mod Shape
+pub mod Loops
+pub mod ShapeTells
 pub mod Own
 pub mod Fill
 pub mod Steps

@@ -18,12 +18,12 @@ use Rattle.rules.specs.declared.Direct.{Direct}
 use Rattle.rules.specs.declared.Hour.{Hour}
 use Rattle.rules.specs.declared.Verdict.{Verdict}
 use Rattle.rules.specs.declared.Verdict.the-variants.{Accepted, Refused}
-use Rattle.entries.specs.Shape.{ownLabel, sourceBlank, deliveryBlank, directBlank}
+use Rattle.record.specs.Shape.{ownLabel, sourceBlank, deliveryBlank, directBlank}
 use Rattle.ranges.specs.Inside.{plantInside, deliveryInside, directInside, lossesInside}
-use Rattle.hour.specs.Keys.{keyOf}
-use Rattle.hour.specs.Tried.{countsOf, sourceTried, deliveryTried, Tables, unitHigh, basisCode, belowMost, codeLeaves}
-use Rattle.hour.specs.declared.Key.{Key}
-use Rattle.hour.specs.declared.Counts.{Counts}
+use Rattle.line_rules.specs.Keys.{keyOf}
+use Rattle.line_rules.specs.Tried.{countsOf, sourceTried, deliveryTried, Tables, unitHigh, basisCode, belowMost, codeLeaves}
+use Rattle.line_rules.specs.declared.Key.{Key}
+use Rattle.line_rules.specs.declared.Counts.{Counts}
 
 abbrev pub accepts : Verdict → Bool
 accepts Accepted = true

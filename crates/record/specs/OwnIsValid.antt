@@ -20,9 +20,9 @@ use Rattle.laws.specs.Choices.{false-not-true, both-true}
 use Rattle.roundtrip.specs.Taken.{finished-passed}
 use Rattle.roundtrip.specs.OwnLines.{OwnLines, head-passed, valid-own, own-valid, own-entries}
 use Rattle.ranges.specs.RangedIsInside.{losses-inside}
-use Rattle.hour.specs.Tried.{countsOf, Few}
-use Rattle.entries.specs.Shape.{sourceBlank, deliveryBlank, directBlank}
-use Rattle.entries.specs.ShapeTells.{blank-source, blank-delivery, blank-direct, blanks-blank}
+use Rattle.line_rules.specs.Tried.{countsOf, Few}
+use Rattle.record.specs.Shape.{sourceBlank, deliveryBlank, directBlank}
+use Rattle.record.specs.ShapeTells.{blank-source, blank-delivery, blank-direct, blanks-blank}
 use Rattle.record.specs.Own.{fillTo, tablesTo, sourceOwnAt, deliveryOwnAt, directOwnAt, Rest, Passes}
 use Rattle.record.specs.Fill.{fillTo-own}
 use Rattle.record.specs.Steps.{few-from, few-to}

@@ -36,19 +36,19 @@ use Rattle.laws.specs.Choices.{false-not-true, both-true, refused-not-accepted,
 use Rattle.roundtrip.specs.Lines.{lineLabelled}
 use Rattle.ranges.specs.Inside as inside
 use Rattle.ranges.specs.Inside.{plantInside, deliveryInside, directInside}
-use Rattle.hour.specs.Keys.{keyOf, keyAt}
-use Rattle.hour.specs.Tried as tried
-use Rattle.hour.specs.Tried.{nextLine, sourceTried, deliveryTried, Tables, belowMost, codeLeaves, onPair, directTried}
-use Rattle.hour.specs.KeyTells.{Labelled, labelled}
-use Rattle.hour.specs.Kept.{keyed-at, Kept}
-use Rattle.hour.specs.Pairs.{pair-at}
-use Rattle.hour.specs.TriedIsTaken.{source-tried, delivery-tried, direct-tried}
-use Rattle.hour.specs.TablesKept.{kept-started, kept-source, kept-delivery, kept-direct}
-use Rattle.hour.specs.declared.Counts.{Counts}
-use Rattle.hour.specs.declared.DirectLine.{DirectLine}
-use Rattle.hour.specs.declared.Pair.the-variants.{Both, Missing}
-use Rattle.entries.specs.Shape.{ownLabel}
-use Rattle.entries.specs.ShapeTells.{own-labelled, labelled-own}
+use Rattle.line_rules.specs.Keys.{keyOf, keyAt}
+use Rattle.line_rules.specs.Tried as tried
+use Rattle.line_rules.specs.Tried.{nextLine, sourceTried, deliveryTried, Tables, belowMost, codeLeaves, onPair, directTried}
+use Rattle.line_rules.specs.KeyTells.{Labelled, labelled}
+use Rattle.line_rules.specs.Kept.{keyed-at, Kept}
+use Rattle.line_rules.specs.Pairs.{pair-at}
+use Rattle.line_rules.specs.TriedIsTaken.{source-tried, delivery-tried, direct-tried}
+use Rattle.line_rules.specs.TablesKept.{kept-started, kept-source, kept-delivery, kept-direct}
+use Rattle.line_rules.specs.declared.Counts.{Counts}
+use Rattle.line_rules.specs.declared.DirectLine.{DirectLine}
+use Rattle.line_rules.specs.declared.Pair.the-variants.{Both, Missing}
+use Rattle.record.specs.Shape.{ownLabel}
+use Rattle.record.specs.ShapeTells.{own-labelled, labelled-own}
 use Rattle.record.specs.Own as own
 use Rattle.record.specs.Own.{accepts, fillTo, tablesTo, counts, slosTo, shisTo, tlosTo, thisTo, sourceOwnAt, deliveryOwnAt, directOwnAt}
 use Rattle.record.specs.Fill.{fillTo-made}

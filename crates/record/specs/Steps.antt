@@ -24,10 +24,10 @@ use Rattle.roundtrip.specs.Fields.{inside-from}
 use Rattle.roundtrip.specs.Entries.{line-ranged}
 use Rattle.ranges.specs.Inside as inside
 use Rattle.ranges.specs.Inside.{directInside}
-use Rattle.hour.specs.Tried.{Few, basisCode}
-use Rattle.hour.specs.declared.Key.{Key}
-use Rattle.hour.specs.declared.Counts.{Counts}
-use Rattle.entries.specs.Shape.{ownLabel}
+use Rattle.line_rules.specs.Tried.{Few, basisCode}
+use Rattle.line_rules.specs.declared.Key.{Key}
+use Rattle.line_rules.specs.declared.Counts.{Counts}
+use Rattle.record.specs.Shape.{ownLabel}
 use Rattle.record.specs.Own as own
 use Rattle.record.specs.Own.{basedTo, percentsTo, sourceRuled, sourceOwn, deliveryRuled, deliveryOwn, directRuled, directOwn, directOwnIn, fewEntries}
 

@@ -21,8 +21,8 @@ use Rattle.rules.specs.declared.Hour.{Hour}
 use Rattle.laws.specs.Choices.{both-true, accepted-same, then-passed}
 use Rattle.roundtrip.specs.Lines.{lineLabelled}
 use Rattle.roundtrip.specs.Taken.{Entry, source, delivery, direct, taken-passed}
-use Rattle.hour.specs.Tried.{Tables}
-use Rattle.hour.specs.Kept.{Kept}
+use Rattle.line_rules.specs.Tried.{Tables}
+use Rattle.line_rules.specs.Kept.{Kept}
 
 -- Entries stay.
 

@@ -1,12 +1,14 @@
 // The test of 15: whether a deck gives an hour record, by the functions that try a deck's lines.
 // The contract of valid cites rules' Writing; the others cite Own, the test entry by entry.
+mod shape;
+
 ghost use mathlib.Core.Path.{_≡_};
 ghost use Prim.Native.Nat.{_≤_, _<_};
 ghost use Rattle.rules.specs.Writing as writing;
-ghost use Rattle.hour.specs.Tried.{Few};
+ghost use Rattle.line_rules.specs.Tried.{Few};
 ghost use Rattle.record.specs.Own.{sourceRuled, deliveryRuled, directOwn, fewEntries};
-use hour::Counts;
-use hour::Key;
+use line_rules::Counts;
+use line_rules::Key;
 use rules::Delivery;
 use rules::Direct;
 use rules::Hour;
@@ -29,7 +31,8 @@ fn source_given(i: usize, p: Plant, key: Key, lo: &[u64; 32], hi: &[u64; 32]) ->
         deliveries: 0,
         directs: 0,
     };
-    let Verdict::Accepted = hour::take_source(n, ranges::plant_in_range(p), p, key, lo, hi) else {
+    let Verdict::Accepted = line_rules::take_source(n, ranges::plant_in_range(p), p, key, lo, hi)
+    else {
         return false;
     };
     true
@@ -47,7 +50,7 @@ fn delivery_given(n: usize, j: usize, x: Delivery, key: Key, lo: &[u64; 32], hi:
         deliveries: j,
         directs: 0,
     };
-    let Verdict::Accepted = hour::take_delivery(c, ranged, key, lo, hi) else {
+    let Verdict::Accepted = line_rules::take_delivery(c, ranged, key, lo, hi) else {
         return false;
     };
     true
@@ -81,7 +84,7 @@ fn direct_given(
     if high[s] == 0 {
         return false;
     }
-    if !hour::basis_allowed(b, based[s], high[s]) {
+    if !line_rules::basis_allowed(b, based[s], high[s]) {
         return false;
     }
     wide(percents[s]) + wide(x.percent) <= 100
@@ -122,17 +125,17 @@ pub fn valid(h: Hour) -> bool
     while i < n.sources {
         let x = h.sources[i];
         let l = x.label;
-        if !entries::is_label(l) {
+        if !shape::is_label(l) {
             return false;
         }
-        let k = hour::key_of(l);
+        let k = line_rules::key_of(l);
         let p = x.plant;
         if !source_given(i, p, k, &slo, &shi) {
             return false;
         }
         slo[i] = k.lo;
         shi[i] = k.hi;
-        high[i] = hour::unit_high(p);
+        high[i] = line_rules::unit_high(p);
         i += 1;
     }
     let mut tlo = [0u64; 32];
@@ -141,10 +144,10 @@ pub fn valid(h: Hour) -> bool
     while j < n.deliveries {
         let x = h.deliveries[j];
         let l = x.label;
-        if !entries::is_label(l) {
+        if !shape::is_label(l) {
             return false;
         }
-        let k = hour::key_of(l);
+        let k = line_rules::key_of(l);
         if !delivery_given(n.sources, j, x, k, &tlo, &thi) {
             return false;
         }
@@ -167,32 +170,32 @@ pub fn valid(h: Hour) -> bool
         }
         let b = x.basis;
         let s = x.source;
-        based[s] = hour::basis_code(b);
+        based[s] = line_rules::basis_code(b);
         percents[s] = percents[s] + x.percent;
         q += 1;
     }
     while i < 32 {
         let x = h.sources[i];
-        if !entries::is_blank_source(x) {
+        if !shape::is_blank_source(x) {
             return false;
         }
         i += 1;
     }
     while j < 32 {
         let x = h.deliveries[j];
-        if !entries::is_blank_delivery(x) {
+        if !shape::is_blank_delivery(x) {
             return false;
         }
         j += 1;
     }
     while q < 32 {
         let x = h.directs[q];
-        if !entries::is_blank_direct(x) {
+        if !shape::is_blank_direct(x) {
             return false;
         }
         q += 1;
     }
-    let Verdict::Accepted = hour::finish(h) else {
+    let Verdict::Accepted = line_rules::finish(h) else {
         return false;
     };
     true

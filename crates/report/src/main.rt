@@ -6,7 +6,7 @@ fn main() {
     let mut window = io::large_buffer();
     let n = io::read_full(0, &mut window);
     let mut out = [0u8; 131072];
-    match printout::report(&window[..n], &mut out) {
+    match print_report::report(&window[..n], &mut out) {
         Written::Count(m) => frames::put_first(&out, m),
         Written::Refused(_) => frames::put_line(b"refused 14 ", 0),
     }

@@ -21,7 +21,7 @@ use rules::Written;
 ghost use Prim.Native.Nat.{_<_};
 
 fn refusal_code(r: Refusal) -> u64 {
-    (codes::number_of(r) % 16) * 65536 + (codes::place_of(r) as u64) % 65536
+    (refusals::number_of(r) % 16) * 65536 + (refusals::place_of(r) as u64) % 65536
 }
 
 fn answer_code(x: Written) -> u64 {
@@ -50,7 +50,7 @@ pub extern "C" fn trial_cells(deck: &[u8], by_price: bool, out: &mut [i64]) -> u
 }
 
 fn written(h: Hour, out: &mut [u8]) -> u64 {
-    answer_code(writer::write(h, out))
+    answer_code(write_deck::write(h, out))
 }
 
 #[no_mangle]

@@ -2,7 +2,7 @@
 ghost use mathlib.Core.List.{map};
 ghost use mathlib.Core.Path.{_≡_};
 ghost use Rattle.rules.specs.Group.{opened};
-ghost use Rattle.shift.specs.Ready.{AllReady};
+ghost use Rattle.ladder.specs.Ready.{AllReady};
 use group::Settled;
 use rules::Hour;
 use rules::InternalSequence;
@@ -15,13 +15,13 @@ use rules::Verdict;
 fn open_all(sources: [Source; 32]) -> [Running; 32]
     ensures { λ r. ⌜ r ≡ map (λ s. opened (s .plant)) sources ⌝ }
 {
-    let blank = turns::open(Plant::Fixed { g: 0 });
+    let blank = groups::open(Plant::Fixed { g: 0 });
     let mut states = [blank; 32];
     let mut i = 0;
     while i < 32 {
         let s = sources[i];
         let p = s.plant;
-        states[i] = turns::open(p);
+        states[i] = groups::open(p);
         i += 1;
     }
     states

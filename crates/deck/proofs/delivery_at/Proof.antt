@@ -1,6 +1,6 @@
 -- `deck::delivery_at` meets its contract: the line, its label where it stands, and the rules tried.
 use mathlib.Core.Path.{sym, _∙_}
-use Rattle.lines.specs.Cut.{LabelStands}
+use Rattle.read_lines.specs.Cut.{LabelStands}
 use Rattle.deck.specs.Steps as steps
 use Rattle.deck.specs.LabelsTold.{delivery-told}
 use borrow.Author.Needs.{needs}

@@ -11,7 +11,7 @@ use Rattle.rules.specs.Reading.{finished, linesFrom}
 use Rattle.rules.specs.declared.Hour.{Hour}
 use Rattle.rules.specs.declared.Refusal.{Refusal}
 use Rattle.rules.specs.declared.Refusal.the-variants.{Form}
-use Rattle.hour.specs.Tried.{Tables}
+use Rattle.line_rules.specs.Tried.{Tables}
 use Rattle.laws.specs.Answers.{verdict-refused}
 use Rattle.rules.specs.declared.Verdict.the-variants.{Refused}
 use Rattle.deck.specs.Turns.{SourceTurn, DeliveryTurn, DirectTurn, DirectTakes, source-at-turn, delivery-at-turn, direct-at-turn}

@@ -4,7 +4,7 @@ use Prim.Native.Nat.{_-_, _≤_}
 use native.Mathlib.Omega.{arith}
 use lib.ListN.{length}
 use Rattle.dispatch.proofs.Scaling.{table-none, table-more, table-all}
-use Rattle.marks.specs.Lines.{Table}
+use Rattle.cutoff.specs.Lines.{Table}
 use borrow.Author.Needs.{needs}
 use Rattle.dispatch.proofs.scale.Statement.{statement}
 use Rattle.dispatch.proofs.scale.Tie as tie

@@ -6,7 +6,7 @@ use lib.ListN.{length}
 use Rattle.dispatch.proofs.Levels.{left-small, highest-choice, going-level}
 use Rattle.dispatch.proofs.Taking.{taken-above, choice-there, taken-all}
 use Rattle.dispatch.specs.Taken.{Going, table-sources}
-use Rattle.marks.specs.Tally.{table-scales}
+use Rattle.cutoff.specs.Tally.{table-scales}
 use borrow.Author.Needs.{needs}
 use Rattle.dispatch.proofs.take_best.Statement.{statement}
 use Rattle.dispatch.proofs.take_best.Tie as tie

@@ -2,7 +2,7 @@
 use mathlib.Core.Path.{_≡_}
 use native.Mathlib.Omega.{arith}
 use Rattle.dispatch.proofs.Levels.{turns-keep, turns-choice, turns-take}
-use Rattle.marks.specs.Lines.{at}
+use Rattle.cutoff.specs.Lines.{at}
 use borrow.Author.Needs.{needs}
 use Rattle.dispatch.proofs.take_turn.Statement.{statement}
 use Rattle.dispatch.proofs.take_turn.Tie as tie

@@ -11,10 +11,10 @@ use Rattle.rules.specs.declared.Verdict.the-variants.{Accepted}
 use Rattle.group.specs.Settling.{settled, wayAt, Trying, way-side, way-priced, short-none, short-more, short-all, settled-end, remainder-by, remainder-outcome}
 use Rattle.ladder.specs.Ways.{wayOf, upOf, lines-next, long-lines, lines-long, lines-done, lines-room, taken-within, engine-plain}
 use Rattle.laws.specs.Sums.{sumTo-none, sumTo-more, sumTo-end}
-use Rattle.marks.specs.Lines.{at}
+use Rattle.cutoff.specs.Lines.{at}
 use Rattle.merit.specs.LevelNeverBelowB.{stateAt}
 use Rattle.rules.specs.Group.{all}
-use Rattle.shift.specs.Ready.{AllWithin, Shifted, shifted-none, shifted-more, shifted-skip, shifted-all}
+use Rattle.ladder.specs.Ready.{AllWithin, Shifted, shifted-none, shifted-more, shifted-skip, shifted-all}
 use borrow.Author.Needs.{needs}
 use Rattle.group.proofs.settle.Statement.{statement}
 use Rattle.group.proofs.settle.Tie as tie

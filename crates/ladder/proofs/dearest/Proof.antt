@@ -5,7 +5,7 @@ use Prim.Native.Nat.{_-_, _≤_}
 use native.Mathlib.Omega.{arith}
 use borrow.Author.Needs.{needs}
 use Rattle.ladder.specs.LastStep.{Lead, lead-start, lead-take, lead-keep, lead-end}
-use Rattle.shift.specs.Ready.{Ready}
+use Rattle.ladder.specs.Ready.{Ready}
 use Rattle.ladder.proofs.dearest.Statement.{statement}
 use Rattle.ladder.proofs.dearest.Tie as tie
 

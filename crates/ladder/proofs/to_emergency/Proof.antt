@@ -10,7 +10,7 @@ use Rattle.ladder.specs.Ways.{way-within}
 use Rattle.ladder.specs.declared.Way.the-variants.{Down}
 use Rattle.merit.specs.LevelNeverBelowB.{stateAt}
 use Rattle.rules.specs.Group.{room, emergency, lowered}
-use Rattle.shift.specs.Ready.{Ready, Shifted, shifted-none, shifted-more, shifted-all}
+use Rattle.ladder.specs.Ready.{Ready, Shifted, shifted-none, shifted-more, shifted-all}
 use Rattle.ladder.proofs.to_emergency.Statement.{statement}
 use Rattle.ladder.proofs.to_emergency.Tie as tie
 

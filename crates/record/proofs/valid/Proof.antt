@@ -11,11 +11,11 @@ use Rattle.rules.specs.Words.{allTo}
 use Rattle.rules.specs.Group.{noDirect}
 use Rattle.rules.specs.Sequences.{noDelivery}
 use Rattle.rules.specs.Record.{noSource}
-use Rattle.hour.specs.Finds.{allTo-zero}
-use Rattle.hour.specs.Tried.{countsOf, Few}
-use Rattle.hour.specs.declared.Key.{Key}
-use Rattle.entries.specs.Shape.{sourceBlank, deliveryBlank, directBlank}
-use Rattle.entries.specs.Loops.{allTo-on, allTo-fails, allTo-end, length-mapped}
+use Rattle.line_rules.specs.Finds.{allTo-zero}
+use Rattle.line_rules.specs.Tried.{countsOf, Few}
+use Rattle.line_rules.specs.declared.Key.{Key}
+use Rattle.record.specs.Shape.{sourceBlank, deliveryBlank, directBlank}
+use Rattle.record.specs.Loops.{allTo-on, allTo-fails, allTo-end, length-mapped}
 use Rattle.record.specs.Own as own
 use Rattle.record.specs.Own.{slosTo, shisTo, highsTo, tlosTo, thisTo, basedTo, percentsTo, sourceOwnAt, deliveryOwnAt, directOwnAt, fewEntries, accepts}
 use Rattle.record.specs.Fill.{fillTo-zero, fillTo-more, fillTo-end}

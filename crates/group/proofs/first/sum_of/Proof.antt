@@ -3,7 +3,7 @@ use mathlib.Core.Path.{_≡_, refl}
 use Prim.Native.Nat.{_*_, _-_, _≤_}
 use native.Mathlib.Omega.{arith}
 use Rattle.laws.specs.Sums.{sumTo-none, sumTo-more, sumTo-end}
-use Rattle.marks.specs.Lines.{at}
+use Rattle.cutoff.specs.Lines.{at}
 use Rattle.rules.specs.Words.{sumTo}
 use borrow.Author.Needs.{needs}
 use Rattle.group.proofs.first.sum_of.Statement.{statement}

@@ -3,7 +3,7 @@ use mathlib.Core.Path.{refl}
 use Prim.Native.Nat.{_-_, _≤_}
 use native.Mathlib.Omega.{arith}
 use borrow.Author.Needs.{needs}
-use Rattle.turns.specs.StatesOpened.{Opened, opened-none, opened-more, opened-all}
+use Rattle.groups.specs.StatesOpened.{Opened, opened-none, opened-more, opened-all}
 use Rattle.trials.proofs.settling.open_all.Statement.{statement}
 use Rattle.trials.proofs.settling.open_all.Tie as tie
 

@@ -2,8 +2,8 @@
 use mathlib.Core.Path.{sym, _∙_}
 use borrow.Author.Needs.{needs}
 use borrow.Author.Tests.{not-false}
-use Rattle.turns.specs.StatesStayReady.{start-ready}
-use Rattle.shift.specs.Ready.{AllReady}
+use Rattle.groups.specs.StatesStayReady.{start-ready}
+use Rattle.ladder.specs.Ready.{AllReady}
 use Rattle.trials.proofs.settling.settle_often.Statement.{statement}
 use Rattle.trials.proofs.settling.settle_often.Tie as tie
 

@@ -1,0 +1,13 @@
+-- `reconstruct::open` meets its contract: v is the generation.
+use borrow.Author.Needs.{needs}
+use Rattle.groups.proofs.open.Statement.{statement}
+use Rattle.groups.proofs.open.Tie as tie
+
+generation-of-requires : tie.Need-generation-of-requires
+generation-of-requires c κs = search needs
+
+returns : tie.Need-returns
+returns c = rw (c .generation-of .ensures)
+
+pub open-spec : {M : Type 1} → statement M
+open-spec = tie.close (tie.spec generation-of-requires returns)

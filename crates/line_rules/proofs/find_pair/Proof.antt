@@ -1,0 +1,65 @@
+-- Each way out is the rewriting of what was found on the way to it.
+use native.Mathlib.Omega.{arith}
+use borrow.Author.Tests.{ne-eqb, eq-eqb}
+use borrow.Author.Needs.{needs}
+use Rattle.line_rules.specs.Tried as tried
+use Rattle.line_rules.specs.Answers.{spot-below}
+use Rattle.line_rules.proofs.find_pair.Statement.{statement}
+use Rattle.line_rules.proofs.find_pair.Tie as tie
+
+find-key-requires : tie.Need-find-key-requires
+find-key-requires c κs = search needs
+
+enum-known-i : tie.Need-enum-known-i
+enum-known-i c = search needs
+
+enum-told : tie.Need-enum-told
+enum-told c = search needs
+
+returns : tie.Need-returns
+unfolding tried.pairFound
+returns c = rw (← (c .before .before .find-key .ensures), c .enum-told .given .1)
+
+mul-if1 : tie.Need-mul-if1
+mul-if1 c = omega (arith, spot-below _ _ _ _ (c .before .before .before .find-key .ensures) (c .before .i .given .1), c .before .before .before .before .pre .sources)
+
+element-copy-out-if1 : tie.Need-element-copy-out-if1
+element-copy-out-if1 c = omega (arith, spot-below _ _ _ _ (c .before .before .before .find-key .ensures) (c .before .i .given .1), c .before .before .before .before .pre .sources)
+
+returns-2 : tie.Need-returns-2
+unfolding tried.pairFound
+returns-2 c = rw (← (c .before .before .before .before .before .find-key .ensures), c .before .before .before .i .given .1, eq-eqb _ _ (c .if1 .taken))
+
+find-key-requires-2 : tie.Need-find-key-requires-2
+find-key-requires-2 c κs = search needs
+
+enum-known-j : tie.Need-enum-known-j
+enum-known-j c = search needs
+
+enum-told-2 : tie.Need-enum-told-2
+enum-told-2 c = search needs
+
+returns-3 : tie.Need-returns-3
+unfolding tried.pairFound
+returns-3 c = rw (← (c .before .before .before .before .before .before .before .before .find-key .ensures), c .before .before .before .before .before .before .i .given .1, ne-eqb _ _ (c .before .before .before .if1 .left), ← (c .before .before .find-key2 .ensures), c .enum-told2 .given .1)
+
+returns-4 : tie.Need-returns-4
+unfolding tried.pairFound
+returns-4 c = rw (← (c .before .before .before .before .before .before .before .before .before .find-key .ensures), c .before .before .before .before .before .before .before .i .given .1, ne-eqb _ _ (c .before .before .before .before .if1 .left), ← (c .before .before .before .find-key2 .ensures), c .before .j .given .1)
+
+pub find-pair-spec : {M : Type 1} → statement M
+find-pair-spec =
+    tie.close
+    (tie.spec
+    find-key-requires
+    enum-known-i
+    enum-told
+    returns
+    mul-if1
+    element-copy-out-if1
+    returns-2
+    find-key-requires-2
+    enum-known-j
+    enum-told-2
+    returns-3
+    returns-4)

@@ -1,0 +1,127 @@
+-- Signed numbers as they are written and added.
+use mathlib.Core.Path.{_≡_, refl, ap, sym, _∙_}
+use mathlib.Core.Bool.{Bool, true, false}
+use mathlib.Core.List.{List, _∷_}
+use Prim.Native.Nat.{ℕ, zero, suc, _+_, _≤_}
+use native.Mathlib.Decide.{decLt}
+use native.Mathlib.Omega.{arith}
+use lib.Dec.{T}
+use borrow.Author.Tests.{lt-ltb, le-ltb, ltb-true}
+use lib.IntN.{ℤ, pos, negsuc, natAbs, negℤ, subℕ, _+ℤ_, _-ℤ_, +ℤ-one, +ℤ-idl, negℤ-negℤ}
+use lib.Signed.{ltZ, nonNeg}
+use mir.Facts.{toZ-ofZ, sfits-lit}
+use mir.Syntax.{w64}
+use mir.Val.{Fits, SFits, toZ, ofZ}
+use Rattle.laws.specs.Choices.{true-not-false}
+use Rattle.balance.specs.CellsFit.{SmallCell}
+use Rattle.rules.specs.declared.InternalSequence.{InternalSequence}
+use Rattle.write_fields.specs.Texts.{numberText, spacedText}
+use Rattle.print_lines.specs.Lines.{partText, signedSpaced, amountsText, pairText, openText}
+
+-- a signed number as the machine holds it
+abbrev pub held : ℤ → ℤ
+held z = toZ w64 (ofZ w64 z)
+
+-- lines of amounts as the machine holds them
+
+pub amounts-held : {x y z : ℤ} → SFits w64 x → SFits w64 y → SFits w64 z → (rest : List ℕ) → amountsText (held x) (held y) (held z) rest ≡ amountsText x y z rest
+amounts-held a b c rest = rw (toZ-ofZ a, toZ-ofZ b, toZ-ofZ c)
+
+pub pair-held : (d : List ℕ) (n : InternalSequence) (s : List ℕ) {x y z : ℤ} → SFits w64 x → SFits w64 y → SFits w64 z → (rest : List ℕ) → pairText d n s (held x) (held y) (held z) rest ≡ pairText d n s x y z rest
+pair-held d n s a b c rest = ap (λ (w : List ℕ). partText d (spacedText (n .0) (32 ∷ partText s w))) (amounts-held a b c rest)
+
+pub open-held : (s : List ℕ) {x y : ℤ} → SFits w64 x → SFits w64 y → (rest : List ℕ) → openText s (held x) (held y) rest ≡ openText s x y rest
+open-held s a b rest = rw (toZ-ofZ a, toZ-ofZ b)
+
+-- The size of a number below 0, by way of the number one above it, which has a size that fits.
+
+above : (n : ℕ) → negsuc n +ℤ pos 1 ≡ negℤ (pos n)
+above zero = refl
+above (suc n) = +ℤ-one (negsuc (suc n))
+
+above-fits : (n : ℕ) → SFits w64 (negsuc n) → SFits w64 (negℤ (pos n))
+above-fits zero h = sfits-lit tt
+above-fits (suc n) h = record { sfits = omega (arith, h .sfits) }
+
+module _ (n : ℕ) (h : SFits w64 (negsuc n)) where
+  above-held : held (negsuc n) +ℤ pos 1 ≡ negℤ (pos n)
+  above-held = ap (λ (z : ℤ). z +ℤ pos 1) (toZ-ofZ h) ∙ above n
+
+  turned-held : pos 0 -ℤ held (held (negsuc n) +ℤ pos 1) ≡ pos n
+  turned-held =
+      ap (λ (z : ℤ). pos 0 -ℤ held z) above-held ∙ ap (λ (z : ℤ). pos 0 -ℤ z) (toZ-ofZ (above-fits n h)) ∙ +ℤ-idl (negℤ (negℤ (pos n))) ∙ negℤ-negℤ (pos n)
+
+  size-fits : SFits w64 (pos n)
+  size-fits = record { sfits = h .sfits }
+
+  size-held : held (pos 0 -ℤ held (held (negsuc n) +ℤ pos 1)) ≡ pos n
+  size-held = ap held turned-held ∙ toZ-ofZ size-fits
+
+-- what the code's steps ask and come to
+pub record Turned (v : ℤ) : Type 0 where
+  pub up : SFits w64 (held v +ℤ pos 1)
+  pub turned : SFits w64 (pos 0 -ℤ held (held v +ℤ pos 1))
+  pub plain : T (nonNeg (held (pos 0 -ℤ held (held v +ℤ pos 1)))) × Fits w64 (natAbs (held (pos 0 -ℤ held (held v +ℤ pos 1))))
+  pub more : Fits w64 (natAbs (held (pos 0 -ℤ held (held v +ℤ pos 1))) + 1)
+  pub size : natAbs (held (pos 0 -ℤ held (held v +ℤ pos 1))) + 1 ≡ natAbs v
+
+-- whether it is below 0
+sign-held : (v : ℤ) (b : Bool) → SFits w64 v → ltZ (held v) (pos 0) ≡ b → ltZ v (pos 0) ≡ b
+sign-held v b h e = ap (λ (z : ℤ). ltZ z (pos 0)) (sym (toZ-ofZ h)) ∙ e
+
+pub below-turned : (v : ℤ) → SFits w64 v → ltZ (held v) (pos 0) ≡ true → Turned v
+below-turned (pos n) h e = absurd (omega (arith, ltb-true n 0 (sign-held (pos n) true h e)))
+below-turned (negsuc n) h e =
+    record {
+      up = rw (above-held n h) (above-fits n h);
+      turned = rw (turned-held n h) (size-fits n h);
+      plain = rw (size-held n h) (tt, record { fits = omega (arith, h .sfits) });
+      more = rw (size-held n h) (record { fits = omega (arith, h .sfits) });
+      size = rw (size-held n h) (omega arith);
+    }
+
+pub size-plain : (v : ℤ) → SFits w64 v → ltZ (held v) (pos 0) ≡ false → T (nonNeg (held v)) × Fits w64 (natAbs (held v))
+size-plain (pos n) h e = rw (toZ-ofZ h) (tt, record { fits = omega (arith, h .sfits) })
+size-plain (negsuc n) h e = true-not-false (sign-held (negsuc n) false h e)
+
+-- The sign and the digits.
+
+pub minus-text : (v : ℤ) (n : ℕ) → SFits w64 v → ltZ (held v) (pos 0) ≡ true → n ≡ natAbs (held v) → (rest : List ℕ) → 32 ∷ 45 ∷ numberText n rest ≡ signedSpaced v rest
+minus-text (pos m) n h e s rest = absurd (omega (arith, ltb-true m 0 (sign-held (pos m) true h e)))
+minus-text (negsuc m) n h e s rest = let k : n ≡ suc m = s ∙ ap natAbs (toZ-ofZ h) in rw k
+
+pub plus-text : (v : ℤ) (n : ℕ) → SFits w64 v → ltZ (held v) (pos 0) ≡ false → n ≡ natAbs (held v) → (rest : List ℕ) → 32 ∷ numberText n rest ≡ signedSpaced v rest
+plus-text (pos m) n h e s rest = let k : n ≡ m = s ∙ ap natAbs (toZ-ofZ h) in rw k
+plus-text (negsuc m) n h e s rest = true-not-false (sign-held (negsuc m) false h e)
+
+-- The sum of two cells.
+
+sub-most : (a b n : ℕ) → a ≤ n → b ≤ n → natAbs (subℕ a b) ≤ n
+sub-most a b n h k = elim (decLt a b) [
+  | yes l ↦ rw (lt-ltb a b l) (omega arith)
+  | no l ↦ rw (le-ltb a b (omega arith)) (omega arith)
+]
+
+pub sum-most : (x y : ℤ) → SmallCell x → SmallCell y → natAbs (x +ℤ y) ≤ 200_000_000_000_000
+sum-most (pos a) (pos b) h k = omega arith
+sum-most (pos a) (negsuc b) h k = sub-most a (suc b) 200_000_000_000_000 (omega arith) (omega arith)
+sum-most (negsuc a) (pos b) h k = sub-most b (suc a) 200_000_000_000_000 (omega arith) (omega arith)
+sum-most (negsuc a) (negsuc b) h k = omega arith
+
+fits-below : (z : ℤ) → natAbs z ≤ 200_000_000_000_000 → SFits w64 z
+fits-below (pos n) h = record { sfits = omega arith }
+fits-below (negsuc n) h = record { sfits = omega arith }
+
+pub sum-fits : (x y : ℤ) → SmallCell x → SmallCell y → SFits w64 (x +ℤ y)
+sum-fits x y h k = fits-below (x +ℤ y) (sum-most x y h k)
+
+-- the sum as the machine makes it
+module _ (x y : ℤ) (a : SFits w64 x) (b : SFits w64 y) where
+  pub same-sum : held x +ℤ held y ≡ x +ℤ y
+  same-sum = ap (λ (z : ℤ). z +ℤ held y) (toZ-ofZ a) ∙ ap (λ (z : ℤ). x +ℤ z) (toZ-ofZ b)
+
+  pub held-fits : SmallCell x → SmallCell y → SFits w64 (held x +ℤ held y)
+  held-fits h k = rw same-sum (sum-fits x y h k)
+
+  pub held-sum : SmallCell x → SmallCell y → held (held x +ℤ held y) ≡ x +ℤ y
+  held-sum h k = toZ-ofZ (held-fits h k) ∙ same-sum

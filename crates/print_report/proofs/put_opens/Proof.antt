@@ -1,0 +1,103 @@
+-- `printout::put_opens` meets its contract. The loop's invariant: the first i lines stand.
+use borrow.Author.Needs.{needs}
+use mathlib.Core.Path.{refl}
+use mathlib.Core.List.{[]}
+use Prim.Native.Nat.{_+_, _-_, _*_, _≤_}
+use native.Mathlib.Omega.{arith}
+use lib.ListN.{length}
+use Rattle.write_fields.specs.Inked.{Inked, upTo, inked-as, inked-none, inked-more, inked-all, room-as, room-next}
+use Rattle.print_report.specs.Rows.{openAt, front-open-at, open-at-held}
+use Rattle.print_report.proofs.put_opens.Statement.{statement}
+use Rattle.print_report.proofs.put_opens.Tie as tie
+
+abbrev Inv-loop : tie.InvT-loop
+Inv-loop buf₀ at deck n cells base sources p₀ i₀ buf p i = (n ≤ 32) × (i ≤ n) × (base + n * 2 ≤ length cells) × Inked buf₀ at buf p (upTo (openAt deck sources cells base) i)
+
+abbrev μ-loop : tie.MeasureT-loop
+μ-loop buf₀ at deck n cells base sources p₀ i₀ buf p i = n - i
+
+loop-holds : tie.Need-loop-holds Inv-loop μ-loop
+loop-holds c = (search needs, search needs, search needs, inked-none _ _ _)
+
+mul-place : tie.Need-mul-place Inv-loop μ-loop
+mul-place c = search needs
+
+array-copy-out-place : tie.Need-array-copy-out-place Inv-loop μ-loop
+array-copy-out-place c = search needs
+
+part-at-requires : tie.Need-part-at-requires Inv-loop μ-loop
+part-at-requires c κs = c .before .before .before .before .before .pre .1 .each (c .before .before .loop .i)
+
+mul-k : tie.Need-mul-k Inv-loop μ-loop
+mul-k c = search needs
+
+add-k : tie.Need-add-k Inv-loop μ-loop
+add-k c = search needs
+
+mul-mwh : tie.Need-mul-mwh Inv-loop μ-loop
+mul-mwh c = search needs
+
+shared-slice-copy-out-mwh : tie.Need-shared-slice-copy-out-mwh Inv-loop μ-loop
+shared-slice-copy-out-mwh c = search needs
+
+add-cost : tie.Need-add-cost Inv-loop μ-loop
+add-cost c = search needs
+
+mul-cost : tie.Need-mul-cost Inv-loop μ-loop
+mul-cost c = search needs
+
+shared-slice-copy-out-cost : tie.Need-shared-slice-copy-out-cost Inv-loop μ-loop
+shared-slice-copy-out-cost c = search needs
+
+put-open-requires : tie.Need-put-open-requires Inv-loop μ-loop
+put-open-requires c κs =
+    let loop = c .before .before .before .before .before .before .loop in
+    let s = c .before .before .before .before .before .before .before .before .before in
+    let a = s .args in
+    room-as (open-at-held (a .deck .now) (a .t4) (a .cells .now) (a .base) (loop .i) _ (c .before .before .before .part-at .ensures) (record { sfits = c .before .before .mwh .given }) (record { sfits = c .before .cost .given }) [])
+    (room-next (openAt (a .deck .now) (a .t4) (a .cells .now) (a .base)) (front-open-at (a .deck .now) (a .t4) (a .cells .now) (a .base)) (loop .i) (a .n) (omega arith) (loop .inv .3) (s .pre .3))
+
+add-i : tie.Need-add-i Inv-loop μ-loop
+add-i c = search needs
+
+loop-less : tie.Need-loop-less Inv-loop μ-loop
+loop-less c = search needs
+
+loop-again : tie.Need-loop-again Inv-loop μ-loop
+loop-again c =
+    let loop = c .before .before .before .before .before .before .before .before .before .loop in
+    let a = c .before .before .before .before .before .before .before .before .before .before .before .before .args in
+    let written = open-at-held (a .deck .now) (a .t4) (a .cells .now) (a .base) (loop .i) _ (c .before .before .before .before .before .before .part-at .ensures) (record { sfits = c .before .before .before .before .before .mwh .given }) (record { sfits = c .before .before .before .before .cost .given }) in
+    (search needs, search needs, search needs, inked-more _ _ (loop .inv .3) (inked-as written (c .before .before .put-open .ensures)))
+
+same-length : tie.Need-same-length Inv-loop μ-loop
+same-length c = c .before .loop .inv .3 .kept
+
+returns : tie.Need-returns Inv-loop μ-loop
+returns c =
+    let a = c .before .before .before .before .args in
+    inked-all (openAt (a .deck .now) (a .t4) (a .cells .now) (a .base)) (c .before .loop .i) (a .n) (λ rest. refl) (omega arith) (c .before .loop .inv .3)
+
+pub put-opens-spec : {M : Type 1} → statement M
+put-opens-spec =
+    tie.close
+    (tie.spec
+    Inv-loop
+    μ-loop
+    loop-holds
+    mul-place
+    array-copy-out-place
+    part-at-requires
+    mul-k
+    add-k
+    mul-mwh
+    shared-slice-copy-out-mwh
+    add-cost
+    mul-cost
+    shared-slice-copy-out-cost
+    put-open-requires
+    add-i
+    loop-less
+    loop-again
+    same-length
+    returns)

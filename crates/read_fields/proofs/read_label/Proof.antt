@@ -1,0 +1,153 @@
+-- `text::read_label` meets its contract: reading on from here gives what reading from the opening quote gives.
+use Prim.Native.Nat.{_+_, _-_, _<_, _≤_}
+use mathlib.Core.Path.{_≡_, ap, sym, _∙_}
+use mathlib.Core.Bool.{false}
+use native.Mathlib.Omega.{arith}
+use lib.ListN.{length, getD, drop}
+use borrow.Author.Tests.{not-true, not-false}
+use Rattle.rules.specs.Fields.{isEscaped, closing, labelEnd}
+use Rattle.read_fields.specs.Answers.{endOf}
+use Rattle.read_fields.proofs.Bytes.{byte-inside}
+use Rattle.read_fields.proofs.Labels.{escaped-inside, label-quoted, label-unquoted, closing-end, quote-closes, escaped-more, escaped-none, character-more, character-none}
+use borrow.Author.Needs.{needs}
+use Rattle.read_fields.proofs.read_label.Statement.{statement}
+use Rattle.read_fields.proofs.read_label.Tie as tie
+
+abbrev Inv-loop : tie.InvT-loop
+Inv-loop part n₀ i₀ n i = (n ≤ i) × (closing false n i (drop i part) ≡ labelEnd part)
+
+abbrev μ-loop : tie.MeasureT-loop
+μ-loop part n₀ i₀ n i = length part - i
+
+escaped : (c : tie.After-is-escaped Inv-loop μ-loop) → isEscaped (getD (c .before .before .before .before .before .before .before .before .before .before .args .part .now) (c .before .before .before .before .before .before .loop .i + 1) 0) ≡ c .is-escaped .result
+escaped c = ap isEscaped (sym (c .before .peek2 .ensures)) ∙ sym (c .is-escaped .ensures)
+
+second-inside : (c : tie.Else4 Inv-loop μ-loop) → c .before .before .before .before .before .before .before .loop .i + 1 < length (c .before .before .before .before .before .before .before .before .before .before .before .args .part .now)
+second-inside c = byte-inside (c .before .before .before .before .before .before .before .before .before .before .before .args .part .now) (c .before .before .before .before .before .before .before .loop .i + 1) (escaped-inside _ (escaped (c .before) ∙ not-false _ (c .if4 .left)))
+
+-- src/lib.rt:219:8
+peek-requires : tie.Need-peek-requires Inv-loop μ-loop
+peek-requires c κs = search needs
+
+-- src/lib.rt:220:9
+returns : tie.Need-returns Inv-loop μ-loop
+returns c = ap endOf (sym (label-unquoted (c .before .before .before .args .part .now) (λ e. c .if1 .taken (c .before .peek .ensures ∙ e))))
+
+-- src/lib.rt:224:5
+loop-holds : tie.Need-loop-holds Inv-loop μ-loop
+loop-holds c = (omega arith, label-quoted (c .before .before .before .args .part .now) (sym (c .before .peek .ensures) ∙ c .if1 .left))
+
+-- src/lib.rt:225:17
+shared-slice-read-b : tie.Need-shared-slice-read-b Inv-loop μ-loop
+shared-slice-read-b c = search needs
+
+-- src/lib.rt:227:13
+closed-requires : tie.Need-closed-requires Inv-loop μ-loop
+closed-requires c κs = search needs
+
+-- src/lib.rt:227:13
+returns-2 : tie.Need-returns-2 Inv-loop μ-loop
+returns-2 c =
+    let l = c .before .before .before .before .loop in
+    c .closed .ensures ∙ ap endOf (sym (quote-closes (c .before .before .before .before .before .before .before .before .args .part .now) (l .n) (l .i) (c .before .if2 .taken)) ∙ l .inv .1)
+
+-- src/lib.rt:230:32
+add-peek : tie.Need-add-peek Inv-loop μ-loop
+add-peek c = search needs
+
+-- src/lib.rt:230:17
+peek-requires-2 : tie.Need-peek-requires-2 Inv-loop μ-loop
+peek-requires-2 c κs = search needs
+
+-- src/lib.rt:231:17
+is-escaped-requires : tie.Need-is-escaped-requires Inv-loop μ-loop
+is-escaped-requires c κs = search needs
+
+-- src/lib.rt:232:17
+returns-3 : tie.Need-returns-3 Inv-loop μ-loop
+returns-3 c =
+    let l = c .before .before .before .before .before .before .before .loop in
+    ap endOf (sym (escaped-none (c .before .before .before .before .before .before .before .before .before .before .before .args .part .now) (l .n) (l .i) (c .before .before .before .if3 .taken) (escaped (c .before) ∙ not-true _ (c .if4 .taken))) ∙ l .inv .1)
+
+-- src/lib.rt:234:13
+add-n : tie.Need-add-n Inv-loop μ-loop
+add-n c = search needs
+
+-- src/lib.rt:235:13
+add-i : tie.Need-add-i Inv-loop μ-loop
+add-i c = omega (arith, second-inside c)
+
+-- src/lib.rt:224:5
+loop-less : tie.Need-loop-less Inv-loop μ-loop
+loop-less c = search needs
+
+-- src/lib.rt:224:5
+loop-again : tie.Need-loop-again Inv-loop μ-loop
+loop-again c =
+    let l = c .before .before .before .before .before .before .before .loop in
+    (omega arith, sym (escaped-more (c .before .before .before .before .before .before .before .before .before .before .before .args .part .now) (l .n) (l .i) (c .before .before .before .if3 .taken) (escaped (c .before) ∙ not-false _ (c .if4 .left))) ∙ l .inv .1)
+
+-- src/lib.rt:237:17
+is-character-requires : tie.Need-is-character-requires Inv-loop μ-loop
+is-character-requires c κs = search needs
+
+-- src/lib.rt:238:17
+returns-4 : tie.Need-returns-4 Inv-loop μ-loop
+returns-4 c =
+    let l = c .before .before .before .before .before .before .loop in
+    ap endOf
+    (sym (character-none (c .before .before .before .before .before .before .before .before .before .before .args .part .now) (l .n) (l .i) (omega arith) (c .before .before .before .if2 .left) (c .before .before .if3 .left) (sym (c .before .is-character .ensures) ∙ not-true _ (c .if5 .taken)))
+    ∙ l .inv .1)
+
+-- src/lib.rt:240:13
+add-n-2 : tie.Need-add-n-2 Inv-loop μ-loop
+add-n-2 c = search needs
+
+-- src/lib.rt:241:13
+add-i-2 : tie.Need-add-i-2 Inv-loop μ-loop
+add-i-2 c = search needs
+
+-- src/lib.rt:224:5
+loop-less-2 : tie.Need-loop-less-2 Inv-loop μ-loop
+loop-less-2 c = search needs
+
+-- src/lib.rt:224:5
+loop-again-2 : tie.Need-loop-again-2 Inv-loop μ-loop
+loop-again-2 c =
+    let l = c .before .before .before .before .before .before .loop in (
+      omega arith,
+      sym (character-more (c .before .before .before .before .before .before .before .before .before .before .args .part .now) (l .n) (l .i) (omega arith) (c .before .before .before .if2 .left) (c .before .before .if3 .left) (sym (c .before .is-character .ensures) ∙ not-false _ (c .if5 .left)))
+          ∙ l .inv .1,
+    )
+
+-- src/lib.rt:216:1
+returns-5 : tie.Need-returns-5 Inv-loop μ-loop
+returns-5 c = let l = c .before .loop in ap endOf (sym (closing-end (c .before .before .before .before .before .args .part .now) (l .n) (l .i) (c .loop-test .left)) ∙ l .inv .1)
+
+pub read-label-spec : {M : Type 1} → statement M
+read-label-spec =
+    tie.close
+    (tie.spec
+    Inv-loop
+    μ-loop
+    peek-requires
+    returns
+    loop-holds
+    shared-slice-read-b
+    closed-requires
+    returns-2
+    add-peek
+    peek-requires-2
+    is-escaped-requires
+    returns-3
+    add-n
+    add-i
+    loop-less
+    loop-again
+    is-character-requires
+    returns-4
+    add-n-2
+    add-i-2
+    loop-less-2
+    loop-again-2
+    returns-5)
