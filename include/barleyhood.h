@@ -13,6 +13,8 @@
 #include <stddef.h>
 #include <stdint.h>
 
+#define BARLEYHOOD_VERSION "0.2.0-dev"
+
 #ifdef __cplusplus
 extern "C" {
 #endif
@@ -21,8 +23,9 @@ extern "C" {
 #define BARLEYHOOD_NUMBER(answer) ((uint32_t)((uint64_t)(answer) >> 32))
 #define BARLEYHOOD_PLACE(answer) ((uint32_t)(answer))
 
-/* The numbers of the refusals, with the place of each. barleyhood_check tells 1 to 11, and so does every call that reads
-   the deck but barleyhood_report and the two for labels; the reconstructions go on with 14, then 12 or 13. */
+/* The numbers of the refusals, with the place of each: 0, a line of the deck, or a group by its internal number. barleyhood_check
+   tells 1 to 11, and so does every call that reads the deck but barleyhood_report and the two for labels; the reconstructions go on
+   with 14, then 12 or 13. 15 is of hour records, which no call here takes. */
 enum {
     BARLEYHOOD_TOO_LONG = 1,     /* deck over 8,192 bytes: 0 */
     BARLEYHOOD_FORM = 2,         /* line not of its form or out of order, LF or E missing (empty deck: line 1): line */
@@ -34,10 +37,11 @@ enum {
     BARLEYHOOD_OTHER_BASIS = 8,  /* basis not that of the unit's earlier D line, or a number not below h: line */
     BARLEYHOOD_PERCENTS = 9,     /* unit's percents pass 100: line */
     BARLEYHOOD_OVERDRAWN = 10,   /* losses + deliveries above generation: 0 */
-    BARLEYHOOD_UNPLACED = 11,    /* sequence 0 and no delivery to place it by: first such T line */
-    BARLEYHOOD_NO_ROOM = 12,     /* last-step floors leave too little room: internal number */
-    BARLEYHOOD_NO_HEADROOM = 13, /* too little headroom for a credit: internal number */
-    BARLEYHOOD_SHORT = 14        /* lent buffer too short: 0 */
+    BARLEYHOOD_UNPLACED = 11,    /* sequence 0 and no delivery to place it by, the first such T line: line */
+    BARLEYHOOD_NO_ROOM = 12,     /* last-step floors leave too little room: group */
+    BARLEYHOOD_NO_HEADROOM = 13, /* too little headroom for a credit: group */
+    BARLEYHOOD_SHORT = 14,       /* lent buffer too short: 0 */
+    BARLEYHOOD_NO_DECK = 15      /* hour record that no deck gives: 0 */
 };
 
 /* 0 for a deck that is accepted. */
