@@ -1,5 +1,5 @@
-/* Times the proved calls beside two C versions of the same work, one plainly written (deck.c, plain.c) and one written for speed (quick.c,
-   hour.c, report.c), in one run, turn by turn, so that all meet the same machine.
+/* Times the proved calls beside two C versions of the same work, one plainly written (deck.c, plain.c, print.c) and one written for speed
+   (quick.c, hour.c, report.c), in one run, turn by turn, so that all meet the same machine.
    bench DECK..: a table for each deck. bench alone: how price and plain grow with MWh, sources and groups. */
 #define _POSIX_C_SOURCE 199309L
 #include <stdio.h>
@@ -53,6 +53,7 @@ static uint64_t c_cells(reader *read, rebuilder *rebuild, int by_price) {
 static uint64_t plain_c_read(void) { return c_hour(read_plainly); }
 static uint64_t plain_c_price(void) { return c_cells(read_plainly, reconstruct_plainly, 1); }
 static uint64_t plain_c_plain(void) { return c_cells(read_plainly, reconstruct_plainly, 0); }
+static uint64_t plain_c_report(void) { return report_plainly(deck, size, text, MOST_REPORT); }
 static uint64_t quick_c_read(void) { return c_hour(read_deck); }
 static uint64_t quick_c_price(void) { return c_cells(read_deck, reconstruct, 1); }
 static uint64_t quick_c_plain(void) { return c_cells(read_deck, reconstruct, 0); }
@@ -127,6 +128,22 @@ static void hold_cells(void) {
     }
 }
 
+/* Every report must have the same bytes. */
+static void hold_reports(void) {
+    static work *const w[] = {proved_report, plain_c_report, quick_c_report};
+    static uint8_t first[MOST_REPORT];
+    uint64_t length = 0;
+    for (size_t k = 0; k < sizeof w / sizeof *w; k++) {
+        memset(text, 0, sizeof text);
+        uint64_t n = w[k]();
+        if (k == 0) length = n, memcpy(first, text, sizeof text);
+        if (n != length || memcmp(text, first, sizeof text)) {
+            fprintf(stderr, "bench: the reports differ (%zu)\n", k);
+            exit(1);
+        }
+    }
+}
+
 /* One row: its works in turn, by themselves. Where the proved work is of CALLS + 1 hours, `one` is of one. */
 static void row(const char *name, work *proved, work *one, work *plain_c, work *quick_c) {
     work *w[4];
@@ -134,16 +151,11 @@ static void row(const char *name, work *proved, work *one, work *plain_c, work *
     int n = 0;
     w[n++] = proved;
     if (one) w[n++] = one;
-    if (plain_c) w[n++] = plain_c;
+    w[n++] = plain_c;
     w[n++] = quick_c;
     in_turn(n, w, t);
     double ours = one ? (t[0] - t[1]) / CALLS : t[0];
-    printf("| %s | %.0f ", name, ours);
-    if (plain_c)
-        printf("| %.0f | %.2f ", t[n - 2], ours / t[n - 2]);
-    else
-        printf("| | ");
-    printf("| %.0f | %.2f |\n", t[n - 1], ours / t[n - 1]);
+    printf("| %s | %.0f | %.0f | %.2f | %.0f | %.2f |\n", name, ours, t[n - 2], ours / t[n - 2], t[n - 1], ours / t[n - 1]);
 }
 
 static void table(const char *name) {
@@ -155,13 +167,14 @@ static void table(const char *name) {
     size = fread(deck, 1, DECK, f);
     fclose(f);
     hold_cells();
+    hold_reports();
     printf("\n%s, %zu bytes:\n\n| work | proved, ns | plain C, ns | ratio | C for speed, ns | ratio |\n|---|---|---|---|---|---|\n", name, size);
     row("reading", proved_read, 0, plain_c_read, quick_c_read);
     row("deck to cells, by price", proved_price, 0, plain_c_price, quick_c_price);
     row("deck to cells, one MWh at a time", proved_plain, 0, plain_c_plain, quick_c_plain);
     row("record to cells, by price", proved_prices, proved_one_price, plain_c_record_price, quick_c_record_price);
     row("record to cells, one MWh at a time", proved_plains, proved_one_plain, plain_c_record_plain, quick_c_record_plain);
-    row("deck to report", proved_report, 0, 0, quick_c_report);
+    row("deck to report", proved_report, 0, plain_c_report, quick_c_report);
 }
 
 /* An hour of so many like units, one delivery of so many MWh in each of so many groups. */

@@ -25,7 +25,8 @@ struct refusal reconstruct(const struct hour *h, int64_t *cells, size_t room, in
 /* The same for an hour just read from a deck and a buffer known to hold its cells: 12 and 13 only. */
 struct refusal reconstruct_read(const struct hour *h, int64_t *cells, int by_price);
 
-/* The same as reconstruct, written independently from document 01 and its settled readings (plain.c). */
+/* The same as reconstruct and number_deliveries, written independently from document 01 and its settled readings (plain.c). */
 struct refusal reconstruct_plainly(const struct hour *h, int64_t *cells, size_t room, int by_price);
+void number_plainly(const struct hour *h, uint32_t number[32]);
 
 #endif

@@ -101,7 +101,7 @@ static bool deck_gives(const struct hour *h) {
 
 /* Internal numbers. A delivery of sequence 0 is placed by tables of the others: least and greatest of each type and block, least of each type,
    least of all. Blocks 0 and 10 stay empty. */
-static void number_all(const struct hour *h, uint32_t number[MOST]) {
+void number_plainly(const struct hour *h, uint32_t number[MOST]) {
     enum { NOT = 100 };
     uint8_t least[10][11], greatest[10][11] = {{0}}, of_type[10], of_all = NOT;
     bool unplaced = false;
@@ -150,7 +150,7 @@ static void form_groups(const struct hour *h, struct groups *gs) {
     uint32_t number[MOST];
     uint64_t used[NUMBERS / 64] = {0};
     uint8_t group[NUMBERS]; /* of a number in use */
-    number_all(h, number);
+    number_plainly(h, number);
     for (size_t i = 0; i < h->deliveries; i++) used[number[i] / 64] |= (uint64_t)1 << number[i] % 64;
     gs->n = 0;
     for (size_t w = NUMBERS / 64; w-- > 0;) {

@@ -12,4 +12,7 @@ enum { MOST_REPORT = 128 * 1024 };
    0, and nothing is written, where the room is too small. */
 size_t report(const uint8_t *deck, size_t n, uint8_t *out, size_t room);
 
+/* The same, plainly written (print.c). */
+size_t report_plainly(const uint8_t *deck, size_t n, uint8_t *out, size_t room);
+
 #endif
