@@ -18,7 +18,9 @@ abbrev μ-loop : tie.MeasureT-loop
 μ-loop buf₀ at h n p₀ i₀ buf p i = n - i
 
 loop-holds : tie.Need-loop-holds Inv-loop μ-loop
-loop-holds c = (valid-given (c .before .args .t3) (c .before .pre .0) .deliveries .few, search needs, inked-none _ _ _)
+loop-holds c =
+    let start = c .before in
+    (valid-given (start .args .t3) (start .pre .0) .deliveries .few, search needs, inked-none _ _ _)
 
 mul-x : tie.Need-mul-x Inv-loop μ-loop
 mul-x c = search needs
@@ -28,9 +30,11 @@ element-copy-out-x c = search needs
 
 put-delivery-requires : tie.Need-put-delivery-requires Inv-loop μ-loop
 put-delivery-requires c κs =
-    let s = c .before .before .before .before .before in
+    let in-loop = c .before .before in
+    let at-loop = in-loop .before in
+    let s = at-loop .before .before in
     let h = s .args .t3 in
-    room-next (deliveryText h) (λ i. front-line (deliveryLine (deliveryAt h i))) (c .before .before .before .loop .i) (h .ndeliveries) (omega arith) (c .before .before .before .loop .inv .2) (s .pre .1)
+    room-next (deliveryText h) (λ i. front-line (deliveryLine (deliveryAt h i))) (at-loop .loop .i) (h .ndeliveries) (omega arith) (at-loop .loop .inv .2) (s .pre .1)
 
 add-i : tie.Need-add-i Inv-loop μ-loop
 add-i c = search needs
@@ -39,15 +43,23 @@ loop-less : tie.Need-loop-less Inv-loop μ-loop
 loop-less c = search needs
 
 loop-again : tie.Need-loop-again Inv-loop μ-loop
-loop-again c = (search needs, search needs, inked-more _ _ (c .before .before .before .before .before .before .loop .inv .2) (c .before .before .put-delivery .ensures))
+loop-again c =
+    let after-put-delivery = c .before .before in
+    let in-loop = after-put-delivery .before .before .before in
+    let at-loop = in-loop .before in
+    (search needs, search needs, inked-more _ _ (at-loop .loop .inv .2) (after-put-delivery .put-delivery .ensures))
 
 same-length : tie.Need-same-length Inv-loop μ-loop
-same-length c = c .before .loop .inv .2 .kept
+same-length c =
+    let at-loop = c .before in
+    at-loop .loop .inv .2 .kept
 
 returns : tie.Need-returns Inv-loop μ-loop
 returns c =
-    let h = c .before .before .before .args .t3 in
-    inked-all (deliveryText h) (c .before .loop .i) (h .ndeliveries) (λ rest. refl) (omega arith) (c .before .loop .inv .2)
+    let at-loop = c .before in
+    let start = at-loop .before .before in
+    let h = start .args .t3 in
+    inked-all (deliveryText h) (at-loop .loop .i) (h .ndeliveries) (λ rest. refl) (omega arith) (at-loop .loop .inv .2)
 
 pub put-deliveries-spec : {M : Type 1} → statement M
 put-deliveries-spec =

@@ -10,13 +10,18 @@ slice-aggregate-put-entry : tie.Need-slice-aggregate-put-entry
 slice-aggregate-put-entry c = search needs
 
 put-entry-requires : tie.Need-put-entry-requires
-put-entry-requires c κs = room-as (delivery-text (c .before .before .before .before .before .args .x) []) (c .before .before .before .before .before .pre)
+put-entry-requires c κs =
+    let start = c .before .before .before .before .before in
+    room-as (delivery-text (start .args .x) []) (start .pre)
 
 same-length : tie.Need-same-length
 same-length c = search needs
 
 returns : tie.Need-returns
-returns c = inked-as (delivery-text (c .before .before .before .before .before .before .before .before .args .x)) (c .before .before .put-entry .ensures)
+returns c =
+    let after-put-entry = c .before .before in
+    let start = after-put-entry .before .before .before .before .before .before in
+    inked-as (delivery-text (start .args .x)) (after-put-entry .put-entry .ensures)
 
 pub put-delivery-spec : {M : Type 1} → statement M
 put-delivery-spec =

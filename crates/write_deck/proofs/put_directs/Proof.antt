@@ -18,7 +18,9 @@ abbrev μ-loop : tie.MeasureT-loop
 μ-loop buf₀ at h n p₀ i₀ buf p i = n - i
 
 loop-holds : tie.Need-loop-holds Inv-loop μ-loop
-loop-holds c = (valid-given (c .before .args .t3) (c .before .pre .0) .directs .few, search needs, inked-none _ _ _)
+loop-holds c =
+    let start = c .before in
+    (valid-given (start .args .t3) (start .pre .0) .directs .few, search needs, inked-none _ _ _)
 
 mul-x : tie.Need-mul-x Inv-loop μ-loop
 mul-x c = search needs
@@ -27,22 +29,40 @@ element-copy-out-x : tie.Need-element-copy-out-x Inv-loop μ-loop
 element-copy-out-x c = search needs
 
 mul-source : tie.Need-mul-source Inv-loop μ-loop
-mul-source c = omega (arith, named-within (c .before .before .before .before .args .t3) (c .before .before .before .before .pre .0) (c .before .before .loop .i) (omega arith) .0)
+mul-source c =
+    let in-loop = c .before in
+    let at-loop = in-loop .before in
+    let start = at-loop .before .before in
+    omega (arith, named-within (start .args .t3) (start .pre .0) (at-loop .loop .i) (omega arith) .0)
 
 element-copy-out-source : tie.Need-element-copy-out-source Inv-loop μ-loop
-element-copy-out-source c = omega (arith, named-within (c .before .before .before .before .args .t3) (c .before .before .before .before .pre .0) (c .before .before .loop .i) (omega arith) .0)
+element-copy-out-source c =
+    let in-loop = c .before in
+    let at-loop = in-loop .before in
+    let start = at-loop .before .before in
+    omega (arith, named-within (start .args .t3) (start .pre .0) (at-loop .loop .i) (omega arith) .0)
 
 mul-delivery : tie.Need-mul-delivery Inv-loop μ-loop
-mul-delivery c = omega (arith, named-within (c .before .before .before .before .before .args .t3) (c .before .before .before .before .before .pre .0) (c .before .before .before .loop .i) (omega arith) .1)
+mul-delivery c =
+    let in-loop = c .before .before in
+    let at-loop = in-loop .before in
+    let start = at-loop .before .before in
+    omega (arith, named-within (start .args .t3) (start .pre .0) (at-loop .loop .i) (omega arith) .1)
 
 element-copy-out-delivery : tie.Need-element-copy-out-delivery Inv-loop μ-loop
-element-copy-out-delivery c = omega (arith, named-within (c .before .before .before .before .before .args .t3) (c .before .before .before .before .before .pre .0) (c .before .before .before .loop .i) (omega arith) .1)
+element-copy-out-delivery c =
+    let in-loop = c .before .before in
+    let at-loop = in-loop .before in
+    let start = at-loop .before .before in
+    omega (arith, named-within (start .args .t3) (start .pre .0) (at-loop .loop .i) (omega arith) .1)
 
 put-direct-requires : tie.Need-put-direct-requires Inv-loop μ-loop
 put-direct-requires c κs =
-    let s = c .before .before .before .before .before .before .before .before .before in
+    let in-loop = c .before .before .before .before .before .before in
+    let at-loop = in-loop .before in
+    let s = at-loop .before .before in
     let h = s .args .t3 in
-    room-next (directText h) (λ i. front-line (directLine h (directAt h i))) (c .before .before .before .before .before .before .before .loop .i) (h .ndirects) (omega arith) (c .before .before .before .before .before .before .before .loop .inv .2) (s .pre .1)
+    room-next (directText h) (λ i. front-line (directLine h (directAt h i))) (at-loop .loop .i) (h .ndirects) (omega arith) (at-loop .loop .inv .2) (s .pre .1)
 
 add-i : tie.Need-add-i Inv-loop μ-loop
 add-i c = search needs
@@ -51,15 +71,23 @@ loop-less : tie.Need-loop-less Inv-loop μ-loop
 loop-less c = search needs
 
 loop-again : tie.Need-loop-again Inv-loop μ-loop
-loop-again c = (search needs, search needs, inked-more _ _ (c .before .before .before .before .before .before .before .before .before .before .loop .inv .2) (c .before .before .put-direct .ensures))
+loop-again c =
+    let after-put-direct = c .before .before in
+    let in-loop = after-put-direct .before .before .before .before .before .before .before in
+    let at-loop = in-loop .before in
+    (search needs, search needs, inked-more _ _ (at-loop .loop .inv .2) (after-put-direct .put-direct .ensures))
 
 same-length : tie.Need-same-length Inv-loop μ-loop
-same-length c = c .before .loop .inv .2 .kept
+same-length c =
+    let at-loop = c .before in
+    at-loop .loop .inv .2 .kept
 
 returns : tie.Need-returns Inv-loop μ-loop
 returns c =
-    let h = c .before .before .before .args .t3 in
-    inked-all (directText h) (c .before .loop .i) (h .ndirects) (λ rest. refl) (omega arith) (c .before .loop .inv .2)
+    let at-loop = c .before in
+    let start = at-loop .before .before in
+    let h = start .args .t3 in
+    inked-all (directText h) (at-loop .loop .i) (h .ndirects) (λ rest. refl) (omega arith) (at-loop .loop .inv .2)
 
 pub put-directs-spec : {M : Type 1} → statement M
 put-directs-spec =

@@ -7,13 +7,17 @@ use Rattle.write_deck.proofs.put_end.Statement.{statement}
 use Rattle.write_deck.proofs.put_end.Tie as tie
 
 put-two-requires : tie.Need-put-two-requires
-put-two-requires c κs = room-as (end-text []) (c .before .before .pre)
+put-two-requires c κs =
+    let start = c .before .before in
+    room-as (end-text []) (start .pre)
 
 same-length : tie.Need-same-length
 same-length c = search needs
 
 returns : tie.Need-returns
-returns c = inked-as end-text (c .before .before .put-two .ensures)
+returns c =
+    let after-put-two = c .before .before in
+    inked-as end-text (after-put-two .put-two .ensures)
 
 pub put-end-spec : {M : Type 1} → statement M
 put-end-spec = tie.close (tie.spec put-two-requires same-length returns)

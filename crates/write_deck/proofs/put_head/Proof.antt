@@ -8,19 +8,33 @@ use Rattle.write_deck.proofs.put_head.Statement.{statement}
 use Rattle.write_deck.proofs.put_head.Tie as tie
 
 put-byte-requires : tie.Need-put-byte-requires
-put-byte-requires c κs = room-first (front-byte 72) (room-as (head-text (c .before .before .args .losses) []) (c .before .before .pre))
+put-byte-requires c κs =
+    let start = c .before .before in
+    room-first (front-byte 72) (room-as (head-text (start .args .losses) []) (start .pre))
 
 put-spaced-requires : tie.Need-put-spaced-requires
-put-spaced-requires c κs = room-first (front-spaced (c .before .before .before .before .before .before .args .losses)) (room-after (c .before .before .before .put-byte .ensures) (room-as (head-text (c .before .before .before .before .before .before .args .losses) []) (c .before .before .before .before .before .before .pre)))
+put-spaced-requires c κs =
+    let after-put-byte = c .before .before .before in
+    let start = after-put-byte .before .before .before in
+    room-first (front-spaced (start .args .losses)) (room-after (after-put-byte .put-byte .ensures) (room-as (head-text (start .args .losses) []) (start .pre)))
 
 put-byte-requires-2 : tie.Need-put-byte-requires-2
-put-byte-requires-2 c κs = room-after (c .before .before .before .put-spaced .ensures) (room-after (c .before .before .before .before .before .before .before .put-byte .ensures) (room-as (head-text (c .before .before .before .before .before .before .before .before .before .before .args .losses) []) (c .before .before .before .before .before .before .before .before .before .before .pre)))
+put-byte-requires-2 c κs =
+    let after-put-spaced = c .before .before .before in
+    let after-put-byte = after-put-spaced .before .before .before .before in
+    let start = after-put-byte .before .before .before in
+    room-after (after-put-spaced .put-spaced .ensures) (room-after (after-put-byte .put-byte .ensures) (room-as (head-text (start .args .losses) []) (start .pre)))
 
 same-length : tie.Need-same-length
 same-length c = search needs
 
 returns : tie.Need-returns
-returns c = inked-as (head-text (c .before .before .before .before .before .before .before .before .before .before .before .before .before .args .losses)) (inked-then (c .before .before .before .before .before .before .before .before .before .before .put-byte .ensures) (inked-then (c .before .before .before .before .before .before .put-spaced .ensures) (c .before .before .put-byte2 .ensures)))
+returns c =
+    let after-put-byte2 = c .before .before in
+    let after-put-spaced = after-put-byte2 .before .before .before .before in
+    let after-put-byte = after-put-spaced .before .before .before .before in
+    let start = after-put-byte .before .before .before in
+    inked-as (head-text (start .args .losses)) (inked-then (after-put-byte .put-byte .ensures) (inked-then (after-put-spaced .put-spaced .ensures) (after-put-byte2 .put-byte2 .ensures)))
 
 pub put-head-spec : {M : Type 1} → statement M
 put-head-spec =

@@ -31,8 +31,11 @@ slice-aggregate-put-entry-2 c = search needs
 
 put-entry-requires-2 : tie.Need-put-entry-requires-2
 put-entry-requires-2 c κs =
-    let g = c .before .before .before .p2 .given in
-    room-as (purchase-text (g .0 .0) (g .0 .1 .0) (chars (c .before .before .before .before .before .before .before .args .x .label)) (g .1) []) (c .before .before .before .before .before .before .before .pre)
+    let after-p2 = c .before .before .before in
+    let at-match-keys2 = after-p2 .before in
+    let start = at-match-keys2 .before .before .before in
+    let g = after-p2 .p2 .given in
+    room-as (purchase-text (g .0 .0) (g .0 .1 .0) (chars (start .args .x .label)) (g .1) []) (start .pre)
 
 enum-known-p-3 : tie.Need-enum-known-p-3
 enum-known-p-3 c = search needs
@@ -41,7 +44,11 @@ slice-aggregate-put-entry-3 : tie.Need-slice-aggregate-put-entry-3
 slice-aggregate-put-entry-3 c = search needs
 
 put-entry-requires-3 : tie.Need-put-entry-requires-3
-put-entry-requires-3 c κs = room-as (fixed-text (c .before .before .before .p3 .given .0 .0) (chars (c .before .before .before .before .before .before .before .args .x .label)) (c .before .before .before .p3 .given .1) []) (c .before .before .before .before .before .before .before .pre)
+put-entry-requires-3 c κs =
+    let after-p3 = c .before .before .before in
+    let at-match-keys3 = after-p3 .before in
+    let start = at-match-keys3 .before .before .before in
+    room-as (fixed-text (after-p3 .p3 .given .0 .0) (chars (start .args .x .label)) (after-p3 .p3 .given .1) []) (start .pre)
 
 same-length : tie.Need-same-length
 same-length c = search needs
@@ -59,14 +66,23 @@ same-length-2 c = search needs
 
 returns-2 : tie.Need-returns-2
 returns-2 c =
-    let g = c .before .before .before .before .before .before .p2 .given in
-    inked-as (purchase-text (g .0 .0) (g .0 .1 .0) (chars (c .before .before .before .before .before .before .before .before .before .before .args .x .label)) (g .1)) (c .before .before .put-entry2 .ensures)
+    let after-put-entry2 = c .before .before in
+    let after-p2 = after-put-entry2 .before .before .before .before in
+    let at-match-keys2 = after-p2 .before in
+    let start = at-match-keys2 .before .before .before in
+    let g = after-p2 .p2 .given in
+    inked-as (purchase-text (g .0 .0) (g .0 .1 .0) (chars (start .args .x .label)) (g .1)) (after-put-entry2 .put-entry2 .ensures)
 
 same-length-3 : tie.Need-same-length-3
 same-length-3 c = search needs
 
 returns-3 : tie.Need-returns-3
-returns-3 c = inked-as (fixed-text (c .before .before .before .before .before .before .p3 .given .0 .0) (chars (c .before .before .before .before .before .before .before .before .before .before .args .x .label)) (c .before .before .before .before .before .before .p3 .given .1)) (c .before .before .put-entry3 .ensures)
+returns-3 c =
+    let after-put-entry3 = c .before .before in
+    let after-p3 = after-put-entry3 .before .before .before .before in
+    let at-match-keys3 = after-p3 .before in
+    let start = at-match-keys3 .before .before .before in
+    inked-as (fixed-text (after-p3 .p3 .given .0 .0) (chars (start .args .x .label)) (after-p3 .p3 .given .1)) (after-put-entry3 .put-entry3 .ensures)
 
 pub put-source-spec : {M : Type 1} → statement M
 put-source-spec =

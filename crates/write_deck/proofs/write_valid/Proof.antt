@@ -13,12 +13,15 @@ slice-aggregate-put-deck : tie.Need-slice-aggregate-put-deck
 slice-aggregate-put-deck c = search needs
 
 put-deck-requires : tie.Need-put-deck-requires
-put-deck-requires c κs = (c .before .before .pre, omega (arith, valid-at-most (c .before .before .args .h) (c .before .before .pre)))
+put-deck-requires c κs =
+    let start = c .before .before in
+    (start .pre, omega (arith, valid-at-most (start .args .h) (start .pre)))
 
 returns : tie.Need-returns
 returns c =
-    let s = c .before .before .before .before .before in
-    wrote-short (s .args .h) (s .args .out .now) (s .pre) (c .before .before .put-deck .result) (c .before .before .put-deck .ensures .0) (omega arith)
+    let after-put-deck = c .before .before in
+    let s = after-put-deck .before .before .before in
+    wrote-short (s .args .h) (s .args .out .now) (s .pre) (after-put-deck .put-deck .result) (after-put-deck .put-deck .ensures .0) (omega arith)
 
 sub-put-bytes : tie.Need-sub-put-bytes
 sub-put-bytes c = search needs
@@ -33,19 +36,23 @@ part-put-bytes-end c =
 
 put-bytes-requires : tie.Need-put-bytes-requires
 put-bytes-requires c κs =
-    let d = c .before .before .before .before .before .put-deck in
-    record { fits = omega (arith, ap length (first-bytes (deckText (c .before .before .before .before .before .before .before .before .args .h)) _ (d .last .0) (d .result) (d .ensures .0) (d .ensures .1)), d .ensures .0) }
+    let after-put-deck = c .before .before .before .before .before in
+    let start = after-put-deck .before .before .before in
+    let d = after-put-deck .put-deck in
+    record { fits = omega (arith, ap length (first-bytes (deckText (start .args .h)) _ (d .last .0) (d .result) (d .ensures .0) (d .ensures .1)), d .ensures .0) }
 
 same-length : tie.Need-same-length
 same-length c = search needs
 
 returns-2 : tie.Need-returns-2
 returns-2 c =
-    let s = c .before .before .before .before .before .before .before .before .before .before .before in
-    let d = c .before .before .before .before .before .before .before .before .put-deck in
+    let after-put-bytes = c .before .before in
+    let after-put-deck = after-put-bytes .before .before .before .before .before .before in
+    let s = after-put-deck .before .before .before in
+    let d = after-put-deck .put-deck in
     let w = deckText (s .args .h) in
-    wrote-fits (s .args .h) (s .args .out .now) (s .pre) (d .result) (d .ensures .0) _ (c .before .before .put-bytes .last .0) (c .before .before .put-bytes .result) (omega arith)
-    (first-bytes w _ (d .last .0) (d .result) (d .ensures .0) (d .ensures .1)) (c .before .before .put-bytes .ensures)
+    wrote-fits (s .args .h) (s .args .out .now) (s .pre) (d .result) (d .ensures .0) _ (after-put-bytes .put-bytes .last .0) (after-put-bytes .put-bytes .result) (omega arith)
+    (first-bytes w _ (d .last .0) (d .result) (d .ensures .0) (d .ensures .1)) (after-put-bytes .put-bytes .ensures)
 
 pub write-valid-spec : {M : Type 1} → statement M
 write-valid-spec =

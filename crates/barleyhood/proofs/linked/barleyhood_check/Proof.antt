@@ -18,10 +18,17 @@ code-of-requires : tie.Need-code-of-requires
 code-of-requires c κs = search needs
 
 returns : tie.Need-returns
-returns c = check-accepted _ _ (c .before .before .check-deck .ensures) (c .enum-told .given .1)
+returns c =
+    let at-match-keys1 = c .before in
+    let after-check-deck = at-match-keys1 .before in
+    check-accepted _ _ (after-check-deck .check-deck .ensures) (c .enum-told .given .1)
 
 returns-2 : tie.Need-returns-2
-returns-2 c = c .code-of .ensures ∙ check-refused _ _ (c .before .before .before .before .check-deck .ensures) _ (c .before .before .r .given .1)
+returns-2 c =
+    let after-r = c .before .before in
+    let at-match-keys2 = after-r .before in
+    let after-check-deck = at-match-keys2 .before in
+    c .code-of .ensures ∙ check-refused _ _ (after-check-deck .check-deck .ensures) _ (after-r .r .given .1)
 
 pub barleyhood-check-spec : {M : Type 1} → statement M
 barleyhood-check-spec =

@@ -27,11 +27,22 @@ same-length : tie.Need-same-length
 same-length c = search needs
 
 returns : tie.Need-returns
-returns c = let x = c .before .before .plain in
-    cells-told _ (c .before .before .before .before .before .before .before .read .result) (c .before .before .before .before .before .before .before .read .ensures) (c .before .before .before .before .enum-told .given .1) _ (x .result) _ (c .before .before .before .before .before .before .before .before .before .args .out .now) _ (x .ensures .0) (c .written-code .ensures) (x .ensures .1)
+returns c =
+    let after-plain = c .before .before in
+    let after-enum-told = after-plain .before .before in
+    let at-match-keys1 = after-enum-told .before in
+    let after-read = at-match-keys1 .before .before in
+    let start = after-read .before .before in
+    let x = after-plain .plain in
+    cells-told _ (after-read .read .result) (after-read .read .ensures) (after-enum-told .enum-told .given .1) _ (x .result) _ (start .args .out .now) _ (x .ensures .0) (c .written-code .ensures) (x .ensures .1)
 
 returns-2 : tie.Need-returns-2
-returns-2 c = let x = cells-refused _ (c .before .before .before .before .before .read .result) (c .before .before .before .before .before .read .ensures) _ (c .before .before .v .given .1) _ (c .before .before .before .before .before .before .before .args .out .now) in
+returns-2 c =
+    let after-v = c .before .before in
+    let at-match-keys2 = after-v .before in
+    let after-read = at-match-keys2 .before .before in
+    let start = after-read .before .before in
+    let x = cells-refused _ (after-read .read .result) (after-read .read .ensures) _ (after-v .v .given .1) _ (start .args .out .now) in
     (c .code-of .ensures ∙ x .0, x .1)
 
 pub barleyhood-plain-spec : {M : Type 1} → statement M

@@ -18,10 +18,17 @@ code-of-requires : tie.Need-code-of-requires
 code-of-requires c κs = search needs
 
 returns : tie.Need-returns
-returns c = sources-told _ (c .before .before .before .read .result) (c .before .before .before .read .ensures) (c .enum-told .given .1)
+returns c =
+    let at-match-keys1 = c .before in
+    let after-read = at-match-keys1 .before .before in
+    sources-told _ (after-read .read .result) (after-read .read .ensures) (c .enum-told .given .1)
 
 returns-2 : tie.Need-returns-2
-returns-2 c = c .code-of .ensures ∙ sources-refused _ (c .before .before .before .before .before .read .result) (c .before .before .before .before .before .read .ensures) _ (c .before .before .v .given .1)
+returns-2 c =
+    let after-v = c .before .before in
+    let at-match-keys2 = after-v .before in
+    let after-read = at-match-keys2 .before .before in
+    c .code-of .ensures ∙ sources-refused _ (after-read .read .result) (after-read .read .ensures) _ (after-v .v .given .1)
 
 pub barleyhood-sources-spec : {M : Type 1} → statement M
 barleyhood-sources-spec =

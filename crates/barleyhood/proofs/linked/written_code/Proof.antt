@@ -15,10 +15,14 @@ code-of-requires : tie.Need-code-of-requires
 code-of-requires c κs = search needs
 
 returns : tie.Need-returns
-returns c = ap answerCode (sym (c .before .x .given .1))
+returns c =
+    let after-x = c .before in
+    ap answerCode (sym (after-x .x .given .1))
 
 returns-2 : tie.Need-returns-2
-returns-2 c = c .code-of .ensures ∙ ap answerCode (sym (c .before .before .x2 .given .1))
+returns-2 c =
+    let after-x2 = c .before .before in
+    c .code-of .ensures ∙ ap answerCode (sym (after-x2 .x2 .given .1))
 
 pub written-code-spec : {M : Type 1} → statement M
 written-code-spec =

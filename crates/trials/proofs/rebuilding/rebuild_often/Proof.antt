@@ -35,7 +35,9 @@ loop-less : tie.Need-loop-less Inv-loop μ-loop
 loop-less c = search needs
 
 loop-again : tie.Need-loop-again Inv-loop μ-loop
-loop-again c = ⊎-elim (λ w. search needs) (λ w. search needs) (c .before .before .if1 .came)
+loop-again c =
+    let joined1 = c .before .before in
+    ⊎-elim (λ w. search needs) (λ w. search needs) (joined1 .if1 .came)
 
 same-length : tie.Need-same-length Inv-loop μ-loop
 same-length c = search needs

@@ -41,10 +41,15 @@ loop-less : tie.Need-loop-less Inv-loop μ-loop
 loop-less c = search needs
 
 loop-again : tie.Need-loop-again Inv-loop μ-loop
-loop-again c = (omega arith, opened-more _ _ _ _ (omega arith) (c .before .before .before .loop .inv .1) (c .open2 .ensures))
+loop-again c =
+    let in-loop = c .before .before in
+    let at-loop = in-loop .before in
+    (omega arith, opened-more _ _ _ _ (omega arith) (at-loop .loop .inv .1) (c .open2 .ensures))
 
 returns : tie.Need-returns Inv-loop μ-loop
-returns c = opened-all _ _ _ (search needs) (c .loop-test .left) (c .before .loop .inv .1)
+returns c =
+    let at-loop = c .before in
+    opened-all _ _ _ (search needs) (c .loop-test .left) (at-loop .loop .inv .1)
 
 pub open-all-spec : {M : Type 1} → statement M
 open-all-spec =

@@ -14,7 +14,10 @@ loop-holds : tie.Need-loop-holds Inv-loop μ-loop
 loop-holds c = search needs
 
 settle-requires : tie.Need-settle-requires Inv-loop μ-loop
-settle-requires c κs = c .before .before .pre
+settle-requires c κs =
+    let at-loop = c .before in
+    let start = at-loop .before in
+    start .pre
 
 mul-s : tie.Need-mul-s Inv-loop μ-loop
 mul-s c = search needs

@@ -7,8 +7,11 @@ use Rattle.ladder.specs.Ready.{AllReady}
 use Rattle.trials.proofs.settling.settle_often.Statement.{statement}
 use Rattle.trials.proofs.settling.settle_often.Tie as tie
 
-ready : (c : tie.After-open-all) → AllReady (c .open-all .result) (c .before .before .before .before .before .args .h .nsources)
-ready c = start-ready _ (sym (c .before .before .before .valid .ensures) ∙ not-false _ (c .before .before .if1 .left)) _ (c .open-all .ensures)
+ready : (c : tie.After-open-all) → let start = c .before .before .before .before .before in AllReady (c .open-all .result) (start .args .h .nsources)
+ready c =
+    let else1 = c .before .before in
+    let after-valid = else1 .before in
+    start-ready _ (sym (after-valid .valid .ensures) ∙ not-false _ (else1 .if1 .left)) _ (c .open-all .ensures)
 
 valid-requires : tie.Need-valid-requires
 valid-requires c κs = search needs
@@ -35,7 +38,10 @@ put-levels-requires : tie.Need-put-levels-requires
 put-levels-requires c κs = search needs
 
 repeat-requires : tie.Need-repeat-requires
-repeat-requires c κs = ready (c .before .before .before .before .before .before .before)
+repeat-requires c κs =
+    let at-match-keys1 = c .before .before .before .before .before in
+    let after-open-all = at-match-keys1 .before .before in
+    ready after-open-all
 
 same-length : tie.Need-same-length
 same-length c = search needs
