@@ -13,7 +13,7 @@ use Rattle.balance.specs.HourBalances.{plantAt, Given, started, started-
 use Rattle.balance.specs.SharesMakeUpTheAmount.{share-most}
 use Rattle.laws.specs.Internal.{internal}
 use Rattle.merit.specs.LevelNeverBelowB.{Sound, stateAt, Took, moved-sound}
-use Rattle.merit.specs.NumbersStaySmall.{PlantSmall, Small, level-small, changed-small, paid-small, opened-small, took-small, shift-small}
+use Rattle.merit.specs.NumbersStaySmall.{PlantSmall, Small, level-small, changed-small, charged-small, opened-small, took-small, shift-small}
 use Rattle.merit.specs.RemainderMoves.{Shift, shift-moved, remainder-moves}
 use Rattle.rules.specs.Group.{level, Amount, signed, Item, directMwh, incrementalMwh, directCost, incrementalCost, amount}
 use Rattle.rules.specs.Hour.{numbers, member, share, Cells, Progress, shared, groups, reconstructed, pairCells, openCells, cellsOf, answer}
@@ -38,7 +38,7 @@ signed-small false x h = h
 amount-small : (item : Item) (s t u : Running) → Sound t → Sound u → Small t → Small u → amount item s t u .size ≤ 100_000_000_000_000
 amount-small directMwh s t u gt gu lt lu = omega (arith, gt .part, lt .b)
 amount-small incrementalMwh s t u gt gu lt lu = omega (arith, level-small t gt lt, level-small u gu lu)
-amount-small directCost s t u gt gu lt lu = omega (arith, paid-small t gt lt)
+amount-small directCost s t u gt gu lt lu = omega (arith, charged-small t gt lt)
 amount-small incrementalCost s t u gt gu lt lu =
     omega (arith, changed-small t lt (level t) (level-small t gt lt), changed-small u lu (level u) (level-small u gu lu))
 

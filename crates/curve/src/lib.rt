@@ -220,7 +220,6 @@ fn with_open(s: Running, v: u32) -> Running
         b: s.b,
         based: s.based,
         percent: s.percent,
-        paid: s.paid,
     }
 }
 

@@ -14,7 +14,7 @@ use rules::Verdict;
 ghost use mathlib.Core.Path.{_≡_};
 ghost use Prim.Native.Nat.{_+_, _≤_};
 ghost use Rattle.rules.specs.Units.{normalLow, generation};
-ghost use Rattle.rules.specs.Group.{basis, basic, withBasic, directed, remainder};
+ghost use Rattle.rules.specs.Group.{basis, basic, directed, remainder};
 ghost use Rattle.merit.specs.LevelNeverBelowB.{Sound};
 ghost use Rattle.merit.specs.NumbersStaySmall.{Small};
 ghost use Rattle.ladder.specs.Ready.{AllReady};
@@ -71,22 +71,6 @@ fn basic_of(s: Running, x: Basis) -> u32
     most
 }
 
-fn with_basic(s: Running, x: Basis) -> Running
-    ensures { λ r. ⌜ r ≡ withBasic s x ⌝ }
-{
-    let p = s.plant;
-    let b = basic_of(s, x);
-    Running {
-        plant: p,
-        v: s.v,
-        d: s.d,
-        b: b,
-        based: true,
-        percent: s.percent,
-        paid: s.paid,
-    }
-}
-
 // A source after one D line.
 pub fn allocate(s: Running, line: Direct) -> Running
     requires { ⌜ Sound s × Small s ⌝ }
@@ -94,17 +78,10 @@ pub fn allocate(s: Running, line: Direct) -> Running
     ensures { λ r. ⌜ r ≡ directed s line ⌝ }
 {
     let x = line.basis;
-    let t = with_basic(s, x);
-    let b = t.b;
+    let b = basic_of(s, x);
     let percent = s.percent + line.percent;
     let mwh = b * percent / 100;
-    let after = curve::changed_cost(t, mwh);
-    let before = if s.d == 0 {
-        0
-    } else {
-        curve::changed_cost(t, s.d)
-    };
-    s.with_direct(mwh, b, percent, s.paid + (after - before))
+    s.with_direct(mwh, b, percent)
 }
 
 // How many ways by prices a remainder has: three rungs down, or one up.

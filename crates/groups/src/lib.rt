@@ -28,7 +28,6 @@ pub fn open(p: Plant) -> Running
         b: 0,
         based: false,
         percent: 0,
-        paid: 0,
     }
 }
 

@@ -19,7 +19,7 @@ use Rattle.laws.specs.Choices.{not-false, refuse-passed}
 use Rattle.laws.specs.Signed.{sumℤ, sumℤ-same}
 use Rattle.rules.specs.Calls as calls
 use Rattle.rules.specs.Calls.{reconstruction, leaves}
-use Rattle.rules.specs.Hour.{cellCount, answer}
+use Rattle.rules.specs.Hour.{pairWidth, cellCount, answer}
 use Rattle.rules.specs.Refusals.{Outcome, accepted, refuse}
 use Rattle.rules.specs.Writing.{valid}
 use Rattle.rules.specs.declared.Hour.{Hour}
@@ -47,7 +47,7 @@ module _ (h : Hour) (xs ys : List ℤ) (long : length xs ≡ cellCount h) where
 
   pair : (j i k : ℕ) → j < h .ndeliveries → i < h .nsources → k < 4 → cellAt (xs ++ ys) (pairPlace h j i k) ≡ cellAt xs (pairPlace h j i k)
   pair j i k a b c =
-      let rows : suc j * (h .nsources * 4) ≤ h .ndeliveries * (h .nsources * 4) = mul-le-mul-right (h .nsources * 4) a in
+      let rows : suc j * (h .nsources * pairWidth) ≤ h .ndeliveries * (h .nsources * pairWidth) = mul-le-mul-right (h .nsources * pairWidth) a in
       first (pairPlace h j i k) (omega arith)
 
   -- two columns of a source's cells

@@ -9,7 +9,7 @@ use lib.IntN.{ℤ, pos}
 use Rattle.rules.specs.Words.{if_then_else_, sumTo, listTo}
 use Rattle.rules.specs.Refusals.{Outcome, accepted, andThen}
 use Rattle.rules.specs.Sequences.{noDelivery, sameNumber, numbered}
-use Rattle.rules.specs.Group.{noRunning, opened, groupLines, remainder, Amount, signed, Item, directMwh, incrementalMwh, directCost, incrementalCost, amount, upTo, openCost}
+use Rattle.rules.specs.Group.{noRunning, opened, groupLines, remainder, Amount, signed, Item, directMwh, incrementalMwh, directCost, incrementalCost, amount, upTo, OpenItem, openMwh, openGrains, openAmount}
 use Rattle.rules.specs.declared.InternalSequence.{InternalSequence}
 use Rattle.rules.specs.declared.Hour.{Hour}
 use Rattle.rules.specs.declared.Running.{Running}
@@ -91,20 +91,32 @@ unfoldable pub reconstructed : Hour → Outcome Progress
 reconstructed h = groups h (numbers h) 1000
 
 -- "For each delivery, then each source, in deck order: direct MWh, incremental MWh, direct cost, incremental cost."
+abbrev pub items : List Item
+items = directMwh ∷ incrementalMwh ∷ directCost ∷ incrementalCost ∷ []
+
 abbrev pub pairCells : Cells → ℕ → ℕ → List ℤ
-pairCells cell j i = cell j i directMwh ∷ cell j i incrementalMwh ∷ cell j i directCost ∷ cell j i incrementalCost ∷ []
+pairCells cell j i = map (cell j i) items
 
 -- "After them, for each source, open MWh and open cost."
+abbrev pub openItems : List OpenItem
+openItems = openMwh ∷ openGrains ∷ []
+
 abbrev pub openCells : List Running → ℕ → List ℤ
-openCells ss i = pos (getD ss i noRunning .v) ∷ pos (openCost (getD ss i noRunning)) ∷ []
+openCells ss i = map (λ item. pos (openAmount item (getD ss i noRunning))) openItems
 
 unfoldable pub cellsOf : Hour → Progress → List ℤ
 cellsOf h p =
     listTo (λ j. listTo (pairCells (p .cells) j) (h .nsources)) (h .ndeliveries) ++ listTo (openCells (p .states)) (h .nsources)
 
--- how many they are
+-- how many a pair has, a source, and all together
+abbrev pub pairWidth : ℕ
+pairWidth = 4
+
+abbrev pub openWidth : ℕ
+openWidth = 2
+
 abbrev pub cellCount : Hour → ℕ
-cellCount h = h .ndeliveries * (h .nsources * 4) + h .nsources * 2
+cellCount h = h .ndeliveries * (h .nsources * pairWidth) + h .nsources * openWidth
 
 -- the hour's answer
 unfoldable pub answer : Hour → Outcome (List ℤ)
