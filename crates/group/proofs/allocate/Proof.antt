@@ -25,13 +25,13 @@ mul-mwh c =
 
 with-direct-requires : tie.Need-with-direct-requires
 with-direct-requires c κs =
-    let at-basic = c .before .before .before in
+    let at-basic = c .before .before in
     let a = facts (at-basic .before) in
     rw (at-basic .basic-of .ensures) (refl, a .more, a .within)
 
 returns : tie.Need-returns
 returns c =
-    let at-basic = c .before .before .before .before in
+    let at-basic = c .before .before .before in
     let start = at-basic .before in
     c .with-direct .ensures ∙ directed-is (start .args .s) (start .args .line) _ (at-basic .basic-of .ensures)
 
