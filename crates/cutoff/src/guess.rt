@@ -1,5 +1,7 @@
 // Where to look for the mark next. Nothing is promised of a guess: a poor one costs a round and no MWh.
 ghost use Prim.Native.Nat.{_≤_};
+ghost use Rattle.cutoff.specs.Lines.{lanes};
+use crate::LANES;
 use crate::Offer;
 use crate::least;
 use crate::less;
@@ -62,8 +64,8 @@ fn by_thirds(lo: u64, middle: u64, hi: u64, total: u64, over: u64) -> u64 {
 }
 
 // Where merits begin and end, and the MWh of all sources.
-fn ends(one: &[u64; 32], span: &[u64; 32], cap: &[u64; 32], n: usize, total: u64) -> Guess
-    requires { ⌜ n ≤ 32 ⌝ }
+fn ends(one: &[u64; LANES], span: &[u64; LANES], cap: &[u64; LANES], n: usize, total: u64) -> Guess
+    requires { ⌜ n ≤ lanes ⌝ }
 {
     let mut lo: u64 = 281474976710657;
     let mut hi: u64 = 0;
@@ -97,14 +99,14 @@ fn ends(one: &[u64; 32], span: &[u64; 32], cap: &[u64; 32], n: usize, total: u64
 
 // The slope at the best merit, and as its sum the MWh of sources with that merit alone.
 fn top(
-    one: &[u64; 32],
-    span: &[u64; 32],
-    inv: &[u64; 32],
-    cap: &[u64; 32],
+    one: &[u64; LANES],
+    span: &[u64; LANES],
+    inv: &[u64; LANES],
+    cap: &[u64; LANES],
     n: usize,
     p: u64,
 ) -> Offer
-    requires { ⌜ n ≤ 32 ⌝ }
+    requires { ⌜ n ≤ lanes ⌝ }
 {
     let mut sum: u64 = 0;
     let mut slope: u64 = 0;
@@ -128,14 +130,14 @@ fn top(
 
 // The first guess: by the ends, or for few MWh by the slope at the best merit.
 pub fn first(
-    one: &[u64; 32],
-    span: &[u64; 32],
-    inv: &[u64; 32],
-    cap: &[u64; 32],
+    one: &[u64; LANES],
+    span: &[u64; LANES],
+    inv: &[u64; LANES],
+    cap: &[u64; LANES],
     n: usize,
     total: u64,
 ) -> Guess
-    requires { ⌜ n ≤ 32 ⌝ }
+    requires { ⌜ n ≤ lanes ⌝ }
 {
     let g = ends(one, span, cap, n, total);
     if g.over / 32 <= total {
@@ -156,8 +158,8 @@ pub fn first(
     )
 }
 
-fn flats_at(one: &[u64; 32], span: &[u64; 32], cap: &[u64; 32], n: usize, p: u64) -> Flats
-    requires { ⌜ n ≤ 32 ⌝ }
+fn flats_at(one: &[u64; LANES], span: &[u64; LANES], cap: &[u64; LANES], n: usize, p: u64) -> Flats
+    requires { ⌜ n ≤ lanes ⌝ }
 {
     let mut below: u64 = 0;
     let mut level: u64 = 0;
@@ -232,15 +234,15 @@ fn within(g: Guess, p: u64) -> u64 {
 
 // The mark to try: that of the guess, if it lies inside; else by the MWh at lo and hi and by halves in turn, and after 14 rounds by halves.
 pub fn mark(
-    one: &[u64; 32],
-    span: &[u64; 32],
-    cap: &[u64; 32],
+    one: &[u64; LANES],
+    span: &[u64; LANES],
+    cap: &[u64; LANES],
     n: usize,
     g: Guess,
     total: u64,
     round: u64,
 ) -> Trial
-    requires { ⌜ n ≤ 32 ⌝ }
+    requires { ⌜ n ≤ lanes ⌝ }
 {
     if 13 < round {
         return Trial {

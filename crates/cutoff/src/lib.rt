@@ -7,6 +7,9 @@ ghost use Rattle.cutoff.specs.Lines.{Scaled, Scales, Table, Marked, stoc
 
 mod guess;
 
+// How many lines of merit an engine has room for: one for each source today.
+pub const LANES: usize = 32;
+
 // The MWh at and above a mark, and how fast they grow below it.
 pub struct Offer {
     pub sum: u64,
@@ -50,10 +53,10 @@ fn tilt(one: u64, step: u64, span: u64, inv: u64, p: u64) -> u64 {
 
 // What all sources have at and above p.
 fn supply(
-    one: &[u64; 32],
-    step: &[u64; 32],
-    span: &[u64; 32],
-    inv: &[u64; 32],
+    one: &[u64; LANES],
+    step: &[u64; LANES],
+    span: &[u64; LANES],
+    inv: &[u64; LANES],
     n: usize,
     p: u64,
 ) -> Offer
@@ -80,11 +83,11 @@ fn supply(
 
 // A mark with no more than the total at and above it, and nearly that: within 64 rounds, from the fifteenth on by halves.
 pub fn find_mark(
-    one: &[u64; 32],
-    step: &[u64; 32],
-    span: &[u64; 32],
-    inv: &[u64; 32],
-    cap: &[u64; 32],
+    one: &[u64; LANES],
+    step: &[u64; LANES],
+    span: &[u64; LANES],
+    inv: &[u64; LANES],
+    cap: &[u64; LANES],
     n: usize,
     total: u64,
 ) -> Mark

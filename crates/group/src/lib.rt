@@ -3,6 +3,7 @@
 pub mod first;
 
 use curve::Rung;
+use cutoff::LANES;
 use ladder::Way;
 use rules::Basis;
 use rules::Direct;
@@ -165,9 +166,9 @@ pub fn settle(
     let up = total < took;
     let rest = distance(total, took);
     let ways = tries_of(up);
-    let mut one: [u64; 32] = [0; 32];
-    let mut step: [u64; 32] = [0; 32];
-    let mut cap: [u64; 32] = [0; 32];
+    let mut one: [u64; LANES] = [0; LANES];
+    let mut step: [u64; LANES] = [0; LANES];
+    let mut cap: [u64; LANES] = [0; LANES];
     let mut end = Settled {
         verdict: Verdict::Accepted,
         states: states,
@@ -185,7 +186,7 @@ pub fn settle(
             i += 1;
         }
         if rest <= sum {
-            let mut taken: [u64; 32] = [0; 32];
+            let mut taken: [u64; LANES] = [0; LANES];
             ladder::shift::take(by_price, up, &one, &step, &cap, n, rest, &mut taken);
             let mut k = 0;
             while k < n {

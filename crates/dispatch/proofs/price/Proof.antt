@@ -4,6 +4,7 @@ use Prim.Native.Nat.{ℕ}
 use native.Mathlib.Omega.{arith}
 use Rattle.dispatch.proofs.Places.{places-wider}
 use Rattle.dispatch.proofs.RivalsSuffice.{rivals-sources, rivals-alone, alone-room, alone-taken, rivals-suffice}
+use Rattle.cutoff.specs.Lines.{lanes}
 use Rattle.dispatch.specs.Rivals.{Alone, Places}
 use borrow.Author.Needs.{needs}
 use Rattle.dispatch.proofs.price.Statement.{statement}
@@ -13,7 +14,7 @@ use Rattle.dispatch.proofs.price.Tie as tie
 roomy : (c : tie.Else1) → let a = c .before .before .args in (i : ℕ) × Alone (a .one .now) (a .step .now) (a .cap .now) (a .n) (a .total) (c .before .bar-of .result) i
 roomy c = c .before .bar-of .ensures .some (omega (arith, c .if1 .left))
 
-placed : (c : tie.After-find-rivals) → Places 32 (c .find-rivals .last .1 .1 .1 .0) (c .find-rivals .result)
+placed : (c : tie.After-find-rivals) → Places lanes (c .find-rivals .last .1 .1 .1 .0) (c .find-rivals .result)
 placed c = places-wider (c .before .before .before .before .pre .0 .n-small) (c .find-rivals .ensures .placed)
 
 bar-of-requires : tie.Need-bar-of-requires

@@ -4,13 +4,13 @@ use Prim.Native.Nat.{_-_, _≤_}
 use native.Mathlib.Omega.{arith}
 use lib.ListN.{length}
 use Rattle.dispatch.proofs.Scaling.{table-none, table-more, table-all}
-use Rattle.cutoff.specs.Lines.{Table}
+use Rattle.cutoff.specs.Lines.{lanes, Table}
 use borrow.Author.Needs.{needs}
 use Rattle.dispatch.proofs.scale.Statement.{statement}
 use Rattle.dispatch.proofs.scale.Tie as tie
 
 abbrev Inv-loop : tie.InvT-loop
-Inv-loop one step cap n span₀ inv₀ i₀ span inv i = (i ≤ n) × (length span ≡ 32) × (length inv ≡ 32) × Table one step span inv cap i
+Inv-loop one step cap n span₀ inv₀ i₀ span inv i = (i ≤ n) × (length span ≡ lanes) × (length inv ≡ lanes) × Table one step span inv cap i
 
 abbrev μ-loop : tie.MeasureT-loop
 μ-loop one step cap n span₀ inv₀ i₀ span inv i = n - i
