@@ -9,7 +9,9 @@ is-below-requires : tie.Need-is-below-requires
 is-below-requires c κs = search needs
 
 returns : tie.Need-returns
-returns c = rw (sym (c .before .is-below .ensures) ∙ not-true _ (c .if1 .taken))
+returns c =
+    let after-is-below = c .before in
+    rw (sym (after-is-below .is-below .ensures) ∙ not-true _ (c .if1 .taken))
 
 is-beaten-requires : tie.Need-is-beaten-requires
 is-beaten-requires c κs = search needs

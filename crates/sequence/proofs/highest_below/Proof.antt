@@ -31,10 +31,15 @@ loop-less : tie.Need-loop-less Inv-loop μ-loop
 loop-less c = omega arith
 
 loop-again : tie.Need-loop-again Inv-loop μ-loop
-loop-again c = (omega arith, highest-more _ _ _ _ (c .before .before .before .loop .inv .1) _ (c .higher .ensures))
+loop-again c =
+    let in-loop = c .before .before in
+    let at-loop = in-loop .before in
+    (omega arith, highest-more _ _ _ _ (at-loop .loop .inv .1) _ (c .higher .ensures))
 
 returns : tie.Need-returns Inv-loop μ-loop
-returns c = highest-end _ _ _ _ _ (c .before .loop .inv .0) (c .loop-test .left) (c .before .loop .inv .1)
+returns c =
+    let at-loop = c .before in
+    highest-end _ _ _ _ _ (at-loop .loop .inv .0) (c .loop-test .left) (at-loop .loop .inv .1)
 
 pub highest-below-spec : {M : Type 1} → statement M
 highest-below-spec =

@@ -40,7 +40,9 @@ loop-again c =
     (omega arith, λ ts t. placings-more ts _ (at-loop .loop .j) _ _ (t .long) (omega arith) (at-loop .loop .inv .1 ts t) (c .number .ensures ts t))
 
 returns : tie.Need-returns Inv-loop μ-loop
-returns c = λ ts t. placings-end ts _ (c .before .loop .j) _ (c .before .loop .inv .0) (c .loop-test .left) (c .before .loop .inv .1 ts t)
+returns c =
+    let at-loop = c .before in
+    λ ts t. placings-end ts _ (at-loop .loop .j) _ (at-loop .loop .inv .0) (c .loop-test .left) (at-loop .loop .inv .1 ts t)
 
 pub number-all-spec : {M : Type 1} → statement M
 number-all-spec =

@@ -49,7 +49,10 @@ loop-less : tie.Need-loop-less Inv-loop μ-loop
 loop-less c = omega arith
 
 loop-again : tie.Need-loop-again Inv-loop μ-loop
-loop-again c = (omega arith, columns-more (c .before .before .before .before .loop .inv .1) (omega arith) (c .times-ten .ensures))
+loop-again c =
+    let in-loop = c .before .before .before in
+    let at-loop = in-loop .before in
+    (omega arith, columns-more (at-loop .loop .inv .1) (omega arith) (c .times-ten .ensures))
 
 number-all-requires : tie.Need-number-all-requires Inv-loop μ-loop
 number-all-requires c κs =
