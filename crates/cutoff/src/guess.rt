@@ -3,8 +3,6 @@ ghost use Prim.Native.Nat.{_≤_};
 ghost use Rattle.cutoff.specs.Lines.{lanes};
 use crate::LANES;
 use crate::Offer;
-use crate::least;
-use crate::less;
 
 // What the search knows: at lo there are more MWh than the total, at hi no more, and `spare` of one merit are next below hi. `next` is a mark to try.
 // The slope is to stop `short` MWh before the total, and where it leads nowhere `many` may be left.
@@ -40,11 +38,11 @@ fn between(lo: u64, hi: u64, part: u64, whole: u64) -> u64 {
     if 131072 < part {
         return lo;
     }
-    let d = less(hi, lo) / 64;
+    let d = numbers::less(hi, lo) / 64;
     if 1099511627776 < d {
         return lo;
     }
-    less(hi, d * (part * 64 / whole) + 1)
+    numbers::less(hi, d * (part * 64 / whole) + 1)
 }
 
 fn mean(sum: u64, count: u64) -> u64 {
@@ -76,12 +74,16 @@ fn ends(one: &[u64; LANES], span: &[u64; LANES], cap: &[u64; LANES], n: usize, t
     while i < n {
         let o = one[i];
         let w = span[i];
-        let end = if w == 0 { 281474976710657 } else { less(o, w) };
+        let end = if w == 0 {
+            281474976710657
+        } else {
+            numbers::less(o, w)
+        };
         lo = if end < lo { end } else { lo };
         hi = if hi < o { o } else { hi };
         over = std::num::wrapping_add_u64(over, cap[i]);
-        middles = std::num::wrapping_add_u64(middles, less(o, w / 2));
-        count = std::num::wrapping_add_u64(count, least(w, 1));
+        middles = std::num::wrapping_add_u64(middles, numbers::less(o, w / 2));
+        count = std::num::wrapping_add_u64(count, numbers::least(w, 1));
         i += 1;
     }
     let short: u64 = if n < 16 { 1 } else { 3 };
@@ -92,7 +94,7 @@ fn ends(one: &[u64; LANES], span: &[u64; LANES], cap: &[u64; LANES], n: usize, t
         held: 0,
         spare: 0,
         next: by_thirds(lo, mean(middles, count), hi, total, over),
-        short: least(short, total / 32 + 1),
+        short: numbers::least(short, total / 32 + 1),
         many: if n < 16 { 8 } else { 32 },
     }
 }
@@ -191,11 +193,11 @@ fn inside(g: Guess, p: u64) -> bool {
 
 // Whether the rest is left to single steps: a few MWh, after some rounds more, and what is spare.
 pub fn enough(g: Guess, total: u64, round: u64) -> bool {
-    if less(g.hi, g.lo) <= 1 {
+    if numbers::less(g.hi, g.lo) <= 1 {
         return true;
     }
-    let rest = less(less(total, g.held), g.spare);
-    if rest <= std::num::wrapping_add_u64(6, less(round, 3)) {
+    let rest = numbers::less(numbers::less(total, g.held), g.spare);
+    if rest <= std::num::wrapping_add_u64(6, numbers::less(round, 3)) {
         return true;
     }
     if inside(g, g.next) {
@@ -208,7 +210,7 @@ pub fn enough(g: Guess, total: u64, round: u64) -> bool {
 }
 
 fn middle(g: Guess) -> u64 {
-    std::num::wrapping_add_u64(g.lo, less(g.hi, g.lo) / 2)
+    std::num::wrapping_add_u64(g.lo, numbers::less(g.hi, g.lo) / 2)
 }
 
 // A mark, or where a source of one merit begins near it.
@@ -256,7 +258,12 @@ pub fn mark(
             spare: 0,
         };
     }
-    let by = between(g.lo, g.hi, less(total, g.held), less(g.over, g.held));
+    let by = between(
+        g.lo,
+        g.hi,
+        numbers::less(total, g.held),
+        numbers::less(g.over, g.held),
+    );
     let p = if round % 2 == 0 { middle(g) } else { by };
     let m = within(g, near(g, flats_at(one, span, cap, n, p), p));
     let f = flats_at(one, span, cap, n, m);
@@ -279,11 +286,11 @@ fn way(need: u64, slope: u64) -> u64 {
 
 // What is known after a mark held no more than the total, and after it held more. The next mark is by the slope.
 pub fn lower(g: Guess, t: Trial, e: Offer, total: u64) -> Guess {
-    let need = less(
-        less(total, e.sum),
+    let need = numbers::less(
+        numbers::less(total, e.sum),
         std::num::wrapping_add_u64(t.spare, g.short),
     );
-    let next = less(t.mark, std::num::wrapping_add_u64(way(need, e.slope), 1));
+    let next = numbers::less(t.mark, std::num::wrapping_add_u64(way(need, e.slope), 1));
     Guess {
         lo: g.lo,
         over: g.over,
@@ -297,7 +304,7 @@ pub fn lower(g: Guess, t: Trial, e: Offer, total: u64) -> Guess {
 }
 
 pub fn upper(g: Guess, t: Trial, e: Offer, total: u64) -> Guess {
-    let need = std::num::wrapping_add_u64(less(e.sum, total), g.short);
+    let need = std::num::wrapping_add_u64(numbers::less(e.sum, total), g.short);
     let next = std::num::wrapping_add_u64(t.mark, way(need, e.slope));
     Guess {
         lo: t.mark,

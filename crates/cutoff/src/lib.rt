@@ -1,7 +1,6 @@
 // The search for a mark: a merit such that no more MWh than the total have it or a better one, and few are then left to take.
 // Only the stock at the mark and the number of rounds are proved; `guess` says where to look. Internal: `dispatch` takes what is left.
 ghost use mathlib.Core.Path.{_≡_};
-ghost use Prim.Native.Nat.{_-_, min};
 ghost use Rattle.rules.specs.Words.{sumTo};
 ghost use Rattle.cutoff.specs.Lines.{Scaled, Scales, Table, Marked, stock, stockAt};
 
@@ -22,31 +21,19 @@ pub struct Mark {
     pub sum: u64,
 }
 
-pub fn less(a: u64, b: u64) -> u64
-    ensures { λ r. ⌜ r ≡ a - b ⌝ }
-{
-    if a < b { 0 } else { a - b }
-}
-
-pub fn least(a: u64, b: u64) -> u64
-    ensures { λ r. ⌜ r ≡ min a b ⌝ }
-{
-    if b < a { b } else { a }
-}
-
 // How many of a source's MWh have a merit of at least p: a product for a division, and one test.
 pub fn count(one: u64, step: u64, span: u64, inv: u64, p: u64) -> u64
     requires { ⌜ Scaled step span inv ⌝ }
     ensures { λ q. ⌜ q ≡ stock one step span inv p ⌝ }
 {
-    let w = least(span, less(one, p));
+    let w = numbers::least(span, numbers::less(one, p));
     let q = w * inv / 1099511627776;
     if q * step < w { q + 1 } else { q }
 }
 
 // A source's part of the slope: its reciprocal where the mark lies in its span.
 fn tilt(one: u64, step: u64, span: u64, inv: u64, p: u64) -> u64 {
-    let a = if less(one, p) < span { inv } else { 0 };
+    let a = if numbers::less(one, p) < span { inv } else { 0 };
     let b = if p <= one { a } else { 0 };
     if 0 < step { b } else { 0 }
 }

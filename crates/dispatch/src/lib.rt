@@ -174,7 +174,7 @@ fn block(step: u64, cap: u64, k: u64, rest: u64) -> u64
     if 0 < step {
         return 1;
     }
-    cutoff::least(rest, cap - k)
+    numbers::least(rest, cap - k)
 }
 
 // The i-th source in the turn at a tie.
@@ -290,8 +290,8 @@ fn shaped(one: u64, step: u64, cap: u64) -> Shape
 {
     if step == 0 {
         return Shape {
-            span: cutoff::least(1, cap),
-            inv: cutoff::less(cap, 1) * 1099511627776,
+            span: numbers::least(1, cap),
+            inv: numbers::less(cap, 1) * 1099511627776,
         };
     }
     Shape {
@@ -354,7 +354,7 @@ fn best_last(
     requires { ⌜ Sources (now one) (now step) (now cap) n ⌝ }
     ensures { λ b. ⌜ Bar (now (one .entry)) (now (step .entry)) (now (cap .entry)) n total b ⌝ }
 {
-    let last = cutoff::less(total, 1);
+    let last = numbers::less(total, 1);
     let mut bar: u64 = 0;
     let mut i = 0;
     while i < n {

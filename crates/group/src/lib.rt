@@ -14,12 +14,11 @@ use rules::Running;
 use rules::Verdict;
 ghost use mathlib.Core.Path.{_≡_};
 ghost use Prim.Native.Nat.{_+_, _≤_};
-ghost use Rattle.rules.specs.Units.{normalLow, generation};
 ghost use Rattle.rules.specs.Group.{basis, basic, directed, remainder};
 ghost use Rattle.merit.specs.LevelNeverBelowB.{Sound};
 ghost use Rattle.merit.specs.NumbersStaySmall.{Small};
 ghost use Rattle.ladder.specs.Ready.{AllReady};
-ghost use Rattle.group.specs.Settling.{settled, apart, tries, wayAt, Short, outcome};
+ghost use Rattle.group.specs.Settling.{settled, tries, wayAt, Short, outcome};
 
 // What a remainder comes to, and the states after it; where it is refused, as they were.
 pub struct Settled {
@@ -27,32 +26,12 @@ pub struct Settled {
     pub states: [Running; 32],
 }
 
-fn normal_low(p: Plant) -> u32
-    ensures { λ r. ⌜ r ≡ normalLow p ⌝ }
-{
-    match p {
-        Plant::Unit(u) => u.n,
-        Plant::Purchase { g: _, rate: _ } => 0,
-        Plant::Fixed { g: _ } => 0,
-    }
-}
-
-pub fn generation_of(p: Plant) -> u32
-    ensures { λ r. ⌜ r ≡ generation p ⌝ }
-{
-    match p {
-        Plant::Unit(u) => u.g,
-        Plant::Purchase { g, rate: _ } => g,
-        Plant::Fixed { g } => g,
-    }
-}
-
 fn basis_of(x: Basis, p: Plant) -> u32
     ensures { λ r. ⌜ r ≡ basis x p ⌝ }
 {
     match x {
-        Basis::Low => normal_low(p),
-        Basis::Generation => generation_of(p),
+        Basis::Low => curve::low_at(p, Rung::Normal),
+        Basis::Generation => p.generation(),
         Basis::Mwh(m) => m,
     }
 }
@@ -111,15 +90,6 @@ fn way_at(up: bool, i: usize) -> Way
     Way::Down(Rung::Emergency)
 }
 
-pub fn distance(a: u64, b: u64) -> u64
-    ensures { λ r. ⌜ r ≡ apart a b ⌝ }
-{
-    if b <= a {
-        return a - b;
-    }
-    b - a
-}
-
 // Where none of them has room: the last step, or 12; for a credit 13.
 fn settle_last(
     number: InternalSequence,
@@ -164,7 +134,7 @@ pub fn settle(
     ensures { λ r. ⌜ r ≡ settled states (remainder number n total took states) ⌝ }
 {
     let up = total < took;
-    let rest = distance(total, took);
+    let rest = numbers::distance(total, took);
     let ways = tries_of(up);
     let mut one: [u64; LANES] = [0; LANES];
     let mut step: [u64; LANES] = [0; LANES];

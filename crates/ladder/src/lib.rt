@@ -148,7 +148,7 @@ fn last_step(states: [Running; 32], n: usize, total: u64) -> [Running; 32]
         let i = dearest(after, n);
         let s = after[i];
         let room = unit_room(s);
-        let k = cutoff::least(room, rest);
+        let k = numbers::least(room, rest);
         after[i] = shift::shift_one(false, s, k);
         rest -= k;
     }

@@ -2,7 +2,7 @@
 // The rules over them are in specs/, as definitions that compute; all other code stands in the crates above.
 ghost use mathlib.Core.Path.{_≡_};
 ghost use Prim.Native.Nat.{_+_, _-_, _*_, _/_, _≤_};
-ghost use Rattle.rules.specs.Units.{curveInside, curveMade};
+ghost use Rattle.rules.specs.Units.{generation, curveInside, curveMade};
 ghost use Rattle.rules.specs.Group.{basedOn, renewed};
 ghost use Rattle.rules.specs.Answers.{curveAnswer};
 
@@ -121,6 +121,18 @@ pub enum Plant {
     Unit(Unit),
     Purchase { g: u32, rate: u32 },
     Fixed { g: u32 },
+}
+
+impl Plant {
+    pub fn generation(self) -> u32
+        ensures { λ x. ⌜ x ≡ generation self ⌝ }
+    {
+        match self {
+            Plant::Unit(u) => u.g,
+            Plant::Purchase { g, rate: _ } => g,
+            Plant::Fixed { g } => g,
+        }
+    }
 }
 
 // A label's characters, and zeros after them.
