@@ -1,5 +1,6 @@
 pub mod SharesMakeUpTheAmount
 pub mod TakenAndLeft
+pub mod KeysOfAnHour
 pub mod NetIsTotal
 pub mod RefusedExactly
 pub mod NumbersBelow1000

@@ -149,8 +149,12 @@ pub struct Source {
 // The number on a T line; 0 means "to be placed".
 pub struct InputSequence(pub u32);
 
-// The number that makes a group.
 pub struct InternalSequence(pub u32);
+
+// What makes a group: deliveries of one key are its members.
+pub struct Key {
+    pub number: InternalSequence,
+}
 
 pub struct Delivery {
     pub sequence: InputSequence,

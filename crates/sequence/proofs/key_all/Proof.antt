@@ -7,8 +7,8 @@ use borrow.Author.Needs.{needs}
 use Rattle.rules.specs.declared.Delivery.{Delivery}
 use Rattle.sequence.specs.Columns.{Columns}
 use Rattle.sequence.specs.Placings.{placingsTo, placings-none, placings-more, placings-end}
-use Rattle.sequence.proofs.number_all.Statement.{statement}
-use Rattle.sequence.proofs.number_all.Tie as tie
+use Rattle.sequence.proofs.key_all.Statement.{statement}
+use Rattle.sequence.proofs.key_all.Tie as tie
 
 abbrev Inv-loop : tie.InvT-loop
 Inv-loop kinds blocks own n placed₀ j₀ placed j = (j ≤ n) × ((ts : List Delivery) → Columns ts n kinds blocks own → placed ≡ placingsTo ts n j)
@@ -44,8 +44,8 @@ returns c =
     let at-loop = c .before in
     λ ts t. placings-end ts _ (at-loop .loop .j) _ (at-loop .loop .inv .0) (c .loop-test .left) (at-loop .loop .inv .1 ts t)
 
-pub number-all-spec : {M : Type 1} → statement M
-number-all-spec =
+pub key-all-spec : {M : Type 1} → statement M
+key-all-spec =
     tie.close
     (tie.spec
     Inv-loop

@@ -3,8 +3,8 @@ use Prim.Native.Nat.{_-_, _≤_}
 use native.Mathlib.Omega.{arith}
 use borrow.Author.Needs.{needs}
 use Rattle.sequence.specs.Columns.{Columns, columns-none, columns-less, columns-more, columns-ranged}
-use Rattle.sequence.proofs.numbers.Statement.{statement}
-use Rattle.sequence.proofs.numbers.Tie as tie
+use Rattle.sequence.proofs.keys.Statement.{statement}
+use Rattle.sequence.proofs.keys.Tie as tie
 
 abbrev Inv-loop : tie.InvT-loop
 Inv-loop n ts kinds₀ blocks₀ own₀ i₀ kinds blocks own i = (i ≤ n) × Columns ts i kinds blocks own
@@ -54,8 +54,8 @@ loop-again c =
     let at-loop = in-loop .before in
     (omega arith, columns-more (at-loop .loop .inv .1) (omega arith) (c .times-ten .ensures))
 
-number-all-requires : tie.Need-number-all-requires Inv-loop μ-loop
-number-all-requires c κs =
+key-all-requires : tie.Need-key-all-requires Inv-loop μ-loop
+key-all-requires c κs =
     let at-end = c .before .before in
     let start = at-end .before .before in
     columns-ranged (columns-less (at-end .before .loop .inv .1) (start .args .n) (at-end .loop-test .left)) (start .pre)
@@ -63,10 +63,10 @@ number-all-requires c κs =
 returns : tie.Need-returns Inv-loop μ-loop
 returns c =
     let at-end = c .before .before .before in
-    c .number-all .ensures _ (columns-less (at-end .before .loop .inv .1) (at-end .before .before .args .n) (at-end .loop-test .left))
+    c .key-all .ensures _ (columns-less (at-end .before .loop .inv .1) (at-end .before .before .args .n) (at-end .loop-test .left))
 
-pub numbers-spec : {M : Type 1} → statement M
-numbers-spec =
+pub keys-spec : {M : Type 1} → statement M
+keys-spec =
     tie.close
     (tie.spec
     Inv-loop
@@ -84,5 +84,5 @@ numbers-spec =
     add-i
     loop-less
     loop-again
-    number-all-requires
+    key-all-requires
     returns)
