@@ -13,3 +13,4 @@ pub mod AccountsClose
 pub mod EveryGroupIsDone
 pub mod NetMwhIsTheTotal
 pub mod EveryCellFits
+pub mod CellsAreFew

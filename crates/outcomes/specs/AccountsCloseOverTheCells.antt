@@ -24,7 +24,7 @@ use Rattle.rules.specs.Refusals.{Outcome, accepted, refuse}
 use Rattle.rules.specs.Writing.{valid}
 use Rattle.rules.specs.declared.Hour.{Hour}
 use Rattle.rules.specs.declared.Refusal.the-variants.{Short, NoDeck}
-use Rattle.reconstruct.specs.WholeAnswer.{count-few}
+use Rattle.balance.specs.CellsAreFew.{count-few}
 
 -- an hour whose reconstruction is accepted: a valid one, whose answer are these cells
 pub record Whole (h : Hour) (xs : List ℤ) : Type 0 where
@@ -33,7 +33,7 @@ pub record Whole (h : Hour) (xs : List ℤ) : Type 0 where
   pub few : length xs ≤ 4160
 
 pub accepted-whole : (h : Hour) (size : ℕ) (xs : List ℤ) → reconstruction h size ≡ accepted xs → Whole h xs
-unfolding calls.reconstruction
+unfolding calls.reconstruction calls.cellsFor
 accepted-whole h size xs e =
     let a = refuse-passed (not (valid h)) NoDeck (refuse (ltb size (cellCount h)) Short (answer h)) xs e in
     let b = refuse-passed (ltb size (cellCount h)) Short (answer h) xs (a .1) in
