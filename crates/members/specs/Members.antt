@@ -10,6 +10,7 @@ use lib.ListN.{length, getD, replicate, getD-replicate}
 use Rattle.balance.specs.AnswerCells.{cellAt}
 use Rattle.laws.specs.Parts.{upTo-start, upTo-grows}
 use Rattle.laws.specs.Sums.{below-suc, sumTo-none, sumTo-same, sumTo-more, sumTo-longer, sumTo-bound}
+use Rattle.members.specs.Live.{rowWidth, Listed}
 use Rattle.members.specs.Rows.{SizesSmall, RowFits, Row}
 use Rattle.members.specs.Shared.{DeliveriesSmall}
 use Rattle.rules.specs.Group.{Amount, signed, upTo}
@@ -62,11 +63,17 @@ module _ (ns : List InternalSequence) (x : InternalSequence) where
 -- group x of `total` MWh, with room for n rows of a width; nothing stands in its members' rows
 pub record RowsGiven (width n : ℕ) (ms : List ℕ) (ns : List InternalSequence) (x : InternalSequence) (total : ℕ) (a : ℕ → Amount) (xs : List ℤ) : Type 0 where
   pub mwhs : MwhsSmall ms n
-  pub narrow : width ≤ 128
+  pub narrow : width ≤ rowWidth
   pub room : n * width ≤ length xs
   pub sum : total ≡ scheduledIn ms ns x n
   pub sizes-small : SizesSmall width a
   pub blank : (k q : ℕ) → k < n → member ns x k ≡ true → q < width → cellAt xs (k * width + q) ≡ pos 0
+
+-- it may be written, of the amounts whose places are listed
+pub record RowsReady (width n : ℕ) (ms : List ℕ) (ns : List InternalSequence) (x : InternalSequence) (total : ℕ) (live sizes : List ℕ) (minus : List Bool) (places : ℕ) (xs : List ℤ) : Type 0 where
+  pub a : ℕ → Amount
+  pub given : RowsGiven width n ms ns x total a xs
+  pub listed : Listed a width live sizes minus places
 
 -- what member k has of the amount at place q: what is more with it
 abbrev pub shareIn : List ℕ → List InternalSequence → InternalSequence → ℕ → (ℕ → Amount) → ℕ → ℕ → ℤ
@@ -88,7 +95,7 @@ pub record RowsWritten (width n : ℕ) (ms : List ℕ) (ns : List InternalSequen
 pub record Going (width : ℕ) (ms : List ℕ) (ns : List InternalSequence) (x : InternalSequence) (total : ℕ) (a : ℕ → Amount) (xs : List ℤ) (j count mwh : ℕ) (had : List ℕ) (ys : List ℤ) : Type 0 where
   pub counts : count ≡ counted ns x j
   pub mwhs : mwh ≡ scheduledIn ms ns x j
-  pub had-long : length had ≡ 128
+  pub had-long : length had ≡ rowWidth
   pub has : (q : ℕ) → q < width → getD had q 0 ≡ upTo total (a q .size) count mwh
   pub long : length ys ≡ length xs
   pub done : (k q : ℕ) → q < width → k < j → cellAt ys (k * width + q) ≡ dueIn ms ns x total a k q (cellAt xs (k * width + q))
@@ -102,12 +109,12 @@ module _ (w n : ℕ) (ms : List ℕ) (ns : List InternalSequence) (x : InternalS
   abbrev At : ℕ → ℕ → ℕ → List ℕ → List ℤ → Type 0
   At = Going w ms ns x total a xs
 
-  pub going-none : At 0 0 0 (replicate 128 0) xs
+  pub going-none : At 0 0 0 (replicate rowWidth 0) xs
   going-none = record {
     counts = sumTo-none _;
     mwhs = sumTo-none _;
     had-long = refl;
-    has = λ q m. getD-replicate 128 q 0 0 (omega (arith, g .narrow)) ∙ upTo-start total (a q .size);
+    has = λ q m. getD-replicate rowWidth q 0 0 (omega (arith, g .narrow)) ∙ upTo-start total (a q .size);
     long = refl;
     done = λ k q m n. absurd (omega arith);
     rest = λ p m. refl;
@@ -131,7 +138,7 @@ module _ (w n : ℕ) (ms : List ℕ) (ns : List InternalSequence) (x : InternalS
   going-fits j count mwh had ys l s e =
       let rows : (j + 1) * w ≤ n * w = mul-le-mul (omega arith) (omega arith) in
       let most : j ≤ 32 = omega (arith, g .mwhs .few) in
-      let low : j * w ≤ 32 * 128 = mul-le-mul most (g .narrow) in
+      let low : j * w ≤ 32 * rowWidth = mul-le-mul most (g .narrow) in
       let with = scheduled-take ms ns x j mwh e (s .mwhs) in
       record {
         narrow = g .narrow;
