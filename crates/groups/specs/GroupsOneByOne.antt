@@ -14,7 +14,7 @@ use Rattle.rules.specs.declared.Hour.{Hour}
 use Rattle.rules.specs.declared.InternalSequence.{InternalSequence}
 use Rattle.rules.specs.declared.Refusal.{Refusal}
 use Rattle.rules.specs.declared.Running.{Running}
-use Rattle.groups.specs.AmountsKept.{Kept, kept-start, kept-pass}
+use Rattle.groups.specs.MovesOfGroups.{Kept, kept-start, kept-pass}
 
 module _ (h : Hour) (ns : List InternalSequence) where
   groups-next : (k : ℕ) (o : Outcome Progress) → groups h ns k ≡ o → groups h ns (suc k) ≡ andThen o (group h ns (descending k))
@@ -52,20 +52,20 @@ module _ (h : Hour) (ns : List InternalSequence) where
       rw (ne-eqb (counted ns x (h .ndeliveries)) 0 (λ z. omega arith))
       (ap (λ (q : Outcome (List Running)). andThen q (λ us. accepted (record { states = us; cells = shared h ns x (p .states) (afterLines h ns (x .0) p) us (p .cells) }))) e)
 
-  -- all numbers from x up are done, and left these states and tables
-  pub record Reached (x : ℕ) (ss : List Running) (led direct moved : List ℕ) : Type 0 where
+  -- all numbers from x up are done, and left these states and this table
+  pub record Reached (x : ℕ) (ss : List Running) (led kept : List ℕ) : Type 0 where
     pub within : x ≤ 1000
     pub progress : Progress
     pub run : groups h ns (1000 - x) ≡ accepted progress
     pub states : ss ≡ progress .states
-    pub kept : Kept h ns x (progress .cells) led direct moved
+    pub table : Kept h ns x (progress .cells) led kept ss
 
-  pub reached-start : (ss : List Running) → ss ≡ map (λ s. opened (s .plant)) (h .sources) → Reached 1000 ss (replicate 32 0) (replicate 1024 0) (replicate 1024 0)
+  pub reached-start : (ss : List Running) → ss ≡ map (λ s. opened (s .plant)) (h .sources) → Reached 1000 ss (replicate 32 0) (replicate 1024 0)
   unfolding groups
-  reached-start ss e = record { within = omega arith; progress = started h ns; run = refl; states = e; kept = kept-start h ns }
+  reached-start ss e = record { within = omega arith; progress = started h ns; run = refl; states = e; table = kept-start h ns ss }
 
-  pub reached-pass : (x y : ℕ) (ss : List Running) (led direct moved : List ℕ) → y ≤ x → ((z : ℕ) → y ≤ z → z < x → counted ns (internal z) (h .ndeliveries) ≡ 0) → Reached x ss led direct moved → Reached y ss led direct moved
-  reached-pass x y ss led direct moved l f r =
+  pub reached-pass : (x y : ℕ) (ss : List Running) (led kept : List ℕ) → y ≤ x → ((z : ℕ) → y ≤ z → z < x → counted ns (internal z) (h .ndeliveries) ≡ 0) → Reached x ss led kept → Reached y ss led kept
+  reached-pass x y ss led kept l f r =
       let b = r .within in
       let e : (1000 - x) + (x - y) ≡ 1000 - y = omega arith in
       record {
@@ -73,10 +73,10 @@ module _ (h : Hour) (ns : List InternalSequence) where
         progress = r .progress;
         run = rw e at (groups-pass (1000 - x) (x - y) (r .progress) (omega arith) (r .run) (λ z a c. f z (omega arith) (omega arith)));
         states = r .states;
-        kept = kept-pass h ns x y (r .progress .cells) led direct moved l f (r .kept);
+        table = kept-pass h ns x y (r .progress .cells) led kept ss l f (r .table);
       }
 
-  module _ (x : InternalSequence) (ss : List Running) (led direct moved : List ℕ) (r : Reached (suc (x .0)) ss led direct moved) (l : 0 < counted ns x (h .ndeliveries)) where
+  module _ (x : InternalSequence) (ss : List Running) (led kept : List ℕ) (r : Reached (suc (x .0)) ss led kept) (l : 0 < counted ns x (h .ndeliveries)) where
     after-group : (o : Outcome (List Running)) → leftAfter x ss (directedTo x ss) ≡ o →
         groups h ns (1000 - x .0) ≡ andThen o (λ us. accepted (record { states = us; cells = shared h ns x (r .progress .states) (afterLines h ns (x .0) (r .progress)) us (r .progress .cells) }))
     after-group o e =
@@ -85,15 +85,15 @@ module _ (h : Hour) (ns : List InternalSequence) where
         let down : 999 - (1000 - suc (x .0)) ≡ x .0 = omega arith in
         rw up (groups-next (1000 - suc (x .0)) (accepted (r .progress)) (r .run) ∙ ap (λ (y : ℕ). group h ns (internal y) (r .progress)) down ∙ group-members x (r .progress) o l (rw (r .states) at e))
 
-    pub reached-turn : (us : List Running) (led′ direct′ moved′ : List ℕ) → leftAfter x ss (directedTo x ss) ≡ accepted us → Kept h ns (x .0) (shared h ns x ss (directedTo x ss) us (r .progress .cells)) led′ direct′ moved′ → Reached (x .0) us led′ direct′ moved′
-    reached-turn us led′ direct′ moved′ e k =
+    pub reached-turn : (us : List Running) (led′ kept′ : List ℕ) → leftAfter x ss (directedTo x ss) ≡ accepted us → Kept h ns (x .0) (shared h ns x ss (directedTo x ss) us (r .progress .cells)) led′ kept′ us → Reached (x .0) us led′ kept′
+    reached-turn us led′ kept′ e k =
         let b = r .within in
         record {
           within = omega arith;
           progress = record { states = us; cells = shared h ns x (r .progress .states) (afterLines h ns (x .0) (r .progress)) us (r .progress .cells) };
           run = after-group (accepted us) e;
           states = refl;
-          kept = rw (r .states) at k;
+          table = rw (r .states) at k;
         }
 
     pub reached-refused : (y : Refusal) → leftAfter x ss (directedTo x ss) ≡ refused y → groups h ns 1000 ≡ refused y

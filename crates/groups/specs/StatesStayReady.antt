@@ -26,14 +26,16 @@ use Rattle.rules.specs.declared.InternalSequence.{InternalSequence}
 use Rattle.rules.specs.declared.Refusal.the-variants.{NoRoom, NoHeadroom}
 use Rattle.rules.specs.declared.Running.{Running}
 use Rattle.rules.specs.declared.Source.{Source}
-use Rattle.ladder.specs.Ready.{AllReady, opened-ready, took-ready, remainder-ready}
+use Rattle.ladder.specs.Ready.{Ready, AllReady, opened-ready, took-ready, remainder-ready}
 
 -- the sources of a valid hour are ready at its start
+pub source-ready : (h : Hour) → valid h ≡ true → (i : ℕ) → Ready (opened (plantAt h i))
+source-ready h v i = opened-ready (plantAt h i) (valid-balances h v .starts i) (valid-small h v .plants i) (valid-levels h v i)
+
 pub start-ready : (h : Hour) → valid h ≡ true → (ss : List Running) → ss ≡ map (λ s. opened (s .plant)) (h .sources) → AllReady ss (h .nsources)
 start-ready h v ss e = record {
   n-small = valid-given h v .sources .few;
-  ready = λ i. rw (e, List·getD-map (λ (s : Source). opened (s .plant)) (h .sources) i noSource)
-      (opened-ready (plantAt h i) (valid-balances h v .starts i) (valid-small h v .plants i) (valid-levels h v i));
+  ready = λ i. rw (e, List·getD-map (λ (s : Source). opened (s .plant)) (h .sources) i noSource) (source-ready h v i);
 }
 
 emergency-long : (ts : List Running) → length (toEmergency ts) ≡ length ts
