@@ -1,8 +1,8 @@
-// Every group of an hour in turn, from the highest number down, by either engine: the states in the end, and where each group found and left each source.
+// Every group of an hour in turn, in their turns, by either engine: the states in the end, and where each group found and left each source.
 // The contracts cite specs/: GroupTurns for where a run stands, RowKept and MovesOfGroups for what the table keeps.
 use group::Settled;
 use rules::Hour;
-use rules::InternalSequence;
+use rules::Key;
 use rules::Plant;
 use rules::Running;
 use rules::Verdict;
@@ -14,7 +14,7 @@ ghost use Rattle.rules.specs.Writing.{valid};
 ghost use Rattle.members.specs.Members.{MwhsOf};
 ghost use Rattle.ladder.specs.Ready.{AllReady};
 ghost use Rattle.groups.specs.RowKept.{Carried};
-ghost use Rattle.groups.specs.GroupTurns.{Blank, Turned};
+ghost use Rattle.groups.specs.GroupTurns.{KeysOf, Blank, Turned};
 
 // A source at the hour's start.
 pub fn open(p: Plant) -> Running
@@ -22,7 +22,7 @@ pub fn open(p: Plant) -> Running
 {
     Running {
         plant: p,
-        v: group::generation_of(p),
+        v: p.generation(),
         d: 0,
         b: 0,
         based: false,
@@ -44,19 +44,19 @@ fn keep_all(kept: &mut [u64; 1024], lead: usize, from: [Running; 32], to: [Runni
     }
 }
 
-// Every number that a delivery has, from the highest down: its D lines and its remainder; the first refusal ends the run.
+// Every key that a delivery has, in its turn: its D lines and its remainder; the first refusal ends the run.
 // Where each source went is kept in the row of the group's first member, and one more than the group's MWh beside that member.
 // The states are large, so their owner goes through them itself. The lines of a remainder's first way are kept, and renewed where a source changes.
 pub fn take_turns(
     h: Hour,
-    numbers: [InternalSequence; 32],
+    keys: [Key; 32],
     by_price: bool,
     mwhs: &[u64; 32],
     led: &mut [u64; 32],
     kept: &mut [u64; 1024],
 ) -> Settled
-    requires { ⌜ (valid h ≡ true) × MwhsOf h (now mwhs) × Blank (now led) (now kept) ⌝ }
-    ensures { λ r. ⌜ Turned h numbers 0 r (now (led .exit)) (now (kept .exit)) ⌝ }
+    requires { ⌜ (valid h ≡ true) × KeysOf h keys × MwhsOf h (now mwhs) × Blank (now led) (now kept) ⌝ }
+    ensures { λ r. ⌜ Turned h keys r (now (led .exit)) (now (kept .exit)) ⌝ }
 {
     let n = h.nsources;
     let blank = open(Plant::Fixed { g: 0 });
@@ -76,10 +76,10 @@ pub fn take_turns(
         group::first::renew(&mut down, &mut room, &mut above, &mut head, a, s);
         a += 1;
     }
-    let mut next = sequence::highest_below(numbers, h.ndeliveries, sequence::ABOVE_ALL);
+    let mut next = sequence::next_after(keys, h.ndeliveries, sequence::BEFORE_ALL);
     while next.there {
-        let number = next.number;
-        let lead = members::lead_of(numbers, h.ndeliveries, number);
+        let key = next.key;
+        let lead = members::lead_of(keys, h.ndeliveries, key);
         let k = h.ndirects;
         let mut took: u64 = 0;
         let mut q = 0;
@@ -87,8 +87,8 @@ pub fn take_turns(
             let line = h.directs[q];
             let source = line.source;
             let delivery = line.delivery;
-            let its = numbers[delivery];
-            if sequence::same_number(its, number) {
+            let its = keys[delivery];
+            if sequence::same_key(its, key) {
                 let s = states[source];
                 let t = group::allocate(s, line);
                 took += (t.d - s.d) as u64;
@@ -98,9 +98,9 @@ pub fn take_turns(
             }
             q += 1;
         }
-        let total = members::total_of(mwhs, h.ndeliveries, numbers, number);
+        let total = members::total_of(mwhs, h.ndeliveries, keys, key);
         let up = total < took;
-        let rest = group::distance(total, took);
+        let rest = numbers::distance(total, took);
         let mut taken: [u64; 32] = [0; 32];
         let enough = group::first::take_first(
             by_price,
@@ -128,6 +128,7 @@ pub fn take_turns(
                 i += 1;
             }
         } else {
+            let number = key.number;
             let end = group::settle(number, n, total, took, states, by_price);
             let verdict = end.verdict;
             let Verdict::Accepted = verdict else {
@@ -147,7 +148,7 @@ pub fn take_turns(
             );
         }
         led[lead] = total + 1;
-        next = sequence::highest_below(numbers, h.ndeliveries, number);
+        next = sequence::next_after(keys, h.ndeliveries, key);
     }
     Settled {
         verdict: Verdict::Accepted,

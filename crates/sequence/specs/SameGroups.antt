@@ -21,7 +21,7 @@ module _ (h : Hour) (ks ls : List Key) (same : (j : ℕ) → keyAt ks j ≡ keyA
     scheduled-same : (j : ℕ) → scheduled h ks x j ≡ scheduled h ls x j
     scheduled-same j = λ d. sumTo (λ i. if member-same d i then getD (h .deliveries) i noDelivery .mwh else 0) j
 
-    counted-same : (j : ℕ) → counted ks x j ≡ counted ls x j
+    pub counted-same : (j : ℕ) → counted ks x j ≡ counted ls x j
     counted-same j = λ d. sumTo (λ i. if member-same d i then 1 else 0) j
 
     share-same : (a : Amount) (j : ℕ) → share h ks x a j ≡ share h ls x a j
