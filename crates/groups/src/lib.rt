@@ -128,8 +128,7 @@ pub fn take_turns(
                 i += 1;
             }
         } else {
-            let number = key.number;
-            let end = group::settle(number, n, total, took, states, by_price);
+            let end = group::settle(key.number, n, total, took, states, by_price);
             let verdict = end.verdict;
             let Verdict::Accepted = verdict else {
                 return end;

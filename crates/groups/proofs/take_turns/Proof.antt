@@ -1,4 +1,4 @@
--- `groups::take_turns` meets its contract: the sources passed are opened and have their lines; between turns all numbers from x up are done and the lines are those of the states;
+-- `groups::take_turns` meets its contract: the sources passed are opened and have their lines; between turns all keys from x up are done and the lines are those of the states;
 -- in a turn the D lines passed are taken, then the sources passed are moved, and the lead's row has where each source went.
 use mathlib.Core.List.{map}
 use mathlib.Core.Logic.{⊎-elim}
@@ -10,7 +10,7 @@ use lib.Dec.{ltb}
 use lib.ListN.{length, getD, length-set}
 use Rattle.cutoff.specs.Lines.{at}
 use Rattle.group.specs.FirstWay.{FirstLines, lines-none, lines-all, lines-renewed, first-sources, Rest, first-rest, shifted-plant}
-use Rattle.groups.specs.GroupTurns.{past, past-there, past-most, accepted-outcome, TurnFits, Worked, Rested, turn-lines, turn-ready, turn-start, turn-deliveries, turn-blank, turn-within, turn-done, turn-refused, Between, between-start, between-next, between-fits, all-turned}
+use Rattle.groups.specs.GroupTurns.{past, past-there, past-most, accepted-outcome, TurnFits, Worked, Rested, turn-lines, turn-ready, turn-start, turn-deliveries, turn-blank, turn-within, turn-members, turn-done, turn-refused, Between, between-start, between-next, between-fits, all-turned}
 use Rattle.groups.specs.LinesTaken.{lineAt, LinesFit, LineFits, line-took, line-directs, LinesTaken, taken-none, taken-skip, taken-all, taken-ready, taken-small, taken-take, line-fits}
 use Rattle.groups.specs.RowKept.{RowKept, Carried, ready-stands, row-more}
 use Rattle.groups.specs.StatesOpened.{Opened, opened-none, opened-more, opened-all, lines-opened}
@@ -28,32 +28,32 @@ use Rattle.groups.proofs.take_turns.Statement.{statement}
 use Rattle.groups.proofs.take_turns.Tie as tie
 
 abbrev Inv-loop : tie.InvT-loop
-Inv-loop by-price mwhs led kept h numbers n states₀ step₀ down₀ room₀ above₀ head₀ a₀ states step down room above head a =
+Inv-loop by-price mwhs led kept h keys n states₀ step₀ down₀ room₀ above₀ head₀ a₀ states step down room above head a =
     (a ≤ n) × Opened (h .sources) a states × FirstLines states step down room above head a
 
 abbrev μ-loop : tie.MeasureT-loop
-μ-loop by-price mwhs led kept h numbers n states₀ step₀ down₀ room₀ above₀ head₀ a₀ states step down room above head a = n - a
+μ-loop by-price mwhs led kept h keys n states₀ step₀ down₀ room₀ above₀ head₀ a₀ states step down room above head a = n - a
 
 abbrev Inv-loop3 : tie.InvT-loop3
-Inv-loop3 by-price mwhs led kept₀ h numbers n states₀ step down₀ room₀ above₀ head₀ a number lead k took₀ q₀ kept states down room above head took q =
-    (q ≤ k) × LinesTaken (member numbers number) (h .directs) states₀ n q states took × RowKept lead n states₀ kept₀ states kept × FirstLines states step down room above head n × (length states ≡ 32)
+Inv-loop3 by-price mwhs led kept₀ h keys n states₀ step down₀ room₀ above₀ head₀ a key lead k took₀ q₀ kept states down room above head took q =
+    (q ≤ k) × LinesTaken (member keys key) (h .directs) states₀ n q states took × RowKept lead n states₀ kept₀ states kept × FirstLines states step down room above head n × (length states ≡ 32)
 
 abbrev μ-loop3 : tie.MeasureT-loop3
-μ-loop3 by-price mwhs led kept₀ h numbers n states₀ step down₀ room₀ above₀ head₀ a number lead k took₀ q₀ kept states down room above head took q = k - q
+μ-loop3 by-price mwhs led kept₀ h keys n states₀ step down₀ room₀ above₀ head₀ a key lead k took₀ q₀ kept states down room above head took q = k - q
 
 abbrev Inv-loop4 : tie.InvT-loop4
-Inv-loop4 by-price mwhs led kept₀ h numbers n states₀ step down₀ room₀ above₀ head₀ a number lead k took q total up rest taken enough i₀ kept states down room above head i =
+Inv-loop4 by-price mwhs led kept₀ h keys n states₀ step down₀ room₀ above₀ head₀ a key lead k took q total up rest taken enough i₀ kept states down room above head i =
     (i ≤ n) × Shifted up states₀ i (at taken) states × Carried lead n states₀ kept₀ states kept × FirstLines states step down room above head n × (length states ≡ 32)
 
 abbrev μ-loop4 : tie.MeasureT-loop4
-μ-loop4 by-price mwhs led kept₀ h numbers n states₀ step down₀ room₀ above₀ head₀ a number lead k took q total up rest taken enough i₀ kept states down room above head i = n - i
+μ-loop4 by-price mwhs led kept₀ h keys n states₀ step down₀ room₀ above₀ head₀ a key lead k took q total up rest taken enough i₀ kept states down room above head i = n - i
 
 abbrev Inv-loop2 : tie.InvT-loop2
-Inv-loop2 by-price mwhs led₀ kept₀ h numbers n states₀ step₀ down₀ room₀ above₀ head₀ a next₀ led kept states step down room above head next =
-    Between h numbers next states led kept × FirstLines states step down room above head n × (length states ≡ 32)
+Inv-loop2 by-price mwhs led₀ kept₀ h keys n states₀ step₀ down₀ room₀ above₀ head₀ a next₀ led kept states step down room above head next =
+    Between h keys next states led kept × FirstLines states step down room above head n × (length states ≡ 32)
 
 abbrev μ-loop2 : tie.MeasureT-loop2
-μ-loop2 by-price mwhs led₀ kept₀ h numbers n states₀ step₀ down₀ room₀ above₀ head₀ a next₀ led kept states step down room above head next = past next
+μ-loop2 by-price mwhs led₀ kept₀ h keys n states₀ step₀ down₀ room₀ above₀ head₀ a next₀ led kept states step down room above head next = past next
 
 -- From place to place: the start, the sources opened, a group's turn, its D lines, its total, and whether the first way has room.
 
@@ -181,28 +181,28 @@ all-opened c =
 
 -- Between turns.
 
-highest-below-requires : tie.Need-highest-below-requires Inv-loop μ-loop Inv-loop3 μ-loop3 Inv-loop4 μ-loop4 Inv-loop2 μ-loop2
-highest-below-requires c κs = few-deliveries (the-start c)
+next-after-requires : tie.Need-next-after-requires Inv-loop μ-loop Inv-loop3 μ-loop3 Inv-loop4 μ-loop4 Inv-loop2 μ-loop2
+next-after-requires c κs = few-deliveries (the-start c)
 
 loop2-holds : tie.Need-loop2-holds Inv-loop μ-loop Inv-loop3 μ-loop3 Inv-loop4 μ-loop4 Inv-loop2 μ-loop2
 loop2-holds c =
     let opening = c .before in
     let l = opening .before .loop .inv in
-    (between-start _ _ _ _ _ _ (all-opened opening) (the-start opening .pre .2) (c .highest-below .ensures), lines-all (l .0) (opening .loop-test .left) (l .2), l .1 .long)
+    (between-start _ _ (the-start opening .pre .0) (the-start opening .pre .1) _ _ _ _ (all-opened opening) (the-start opening .pre .3) (c .next-after .ensures), lines-all (l .0) (opening .loop-test .left) (l .2), l .1 .long)
 
-fits : (c : Turn) → let a = start-of c .args in let l = c .before .loop2 in TurnFits (a .t1) (a .t2) (l .next .number) (l .states) (l .led) (l .kept)
+fits : (c : Turn) → let a = start-of c .args in let l = c .before .loop2 in TurnFits (a .t1) (a .t2) (l .next .key) (l .states) (l .led) (l .kept)
 fits c = between-fits _ _ _ _ _ _ (start-of c .pre .0) (c .loop2-test .taken) (c .before .loop2 .inv .0)
 
 starts : (c : Turn) → AllReady (c .before .loop2 .states) (start-of c .args .t1 .nsources)
 starts c = turn-start _ _ _ _ _ _ (fits c)
 
-fit-lines : (c : Turn) → let a = start-of c .args in let l = c .before .loop2 in LinesFit (member (a .t2) (l .next .number)) (a .t1 .directs) (l .states) (a .t1 .nsources) (a .t1 .ndirects)
+fit-lines : (c : Turn) → let a = start-of c .args in let l = c .before .loop2 in LinesFit (member (a .t2) (l .next .key)) (a .t1 .directs) (l .states) (a .t1 .nsources) (a .t1 .ndirects)
 fit-lines c = turn-lines _ _ _ _ _ _ (fits c)
 
 lead-of-requires : tie.Need-lead-of-requires Inv-loop μ-loop Inv-loop3 μ-loop3 Inv-loop4 μ-loop4 Inv-loop2 μ-loop2
 lead-of-requires c κs =
     let turn = c .before in
-    (few-deliveries (start-of turn), fits turn .members)
+    (few-deliveries (start-of turn), turn-members _ _ _ _ _ _ (fits turn))
 
 lead-small : (c : tie.After-lead-of Inv-loop μ-loop Inv-loop3 μ-loop3 Inv-loop4 μ-loop4 Inv-loop2 μ-loop2) → c .lead-of .result < 32
 lead-small c = turn-within _ _ _ _ _ _ (fits (c .before .before)) _ (c .lead-of .ensures)
@@ -246,8 +246,8 @@ mul-its c = omega (arith, delivery-small (c .before))
 array-copy-out-its : tie.Need-array-copy-out-its Inv-loop μ-loop Inv-loop3 μ-loop3 Inv-loop4 μ-loop4 Inv-loop2 μ-loop2
 array-copy-out-its c = delivery-small (c .before)
 
-same-number-requires : tie.Need-same-number-requires Inv-loop μ-loop Inv-loop3 μ-loop3 Inv-loop4 μ-loop4 Inv-loop2 μ-loop2
-same-number-requires c κs = search needs
+same-key-requires : tie.Need-same-key-requires Inv-loop μ-loop Inv-loop3 μ-loop3 Inv-loop4 μ-loop4 Inv-loop2 μ-loop2
+same-key-requires c κs = search needs
 
 mul-s : tie.Need-mul-s Inv-loop μ-loop Inv-loop3 μ-loop3 Inv-loop4 μ-loop4 Inv-loop2 μ-loop2
 mul-s c =
@@ -264,7 +264,7 @@ its-line : (c : tie.Then1 Inv-loop μ-loop Inv-loop3 μ-loop3 Inv-loop4 μ-loop4
 its-line c =
     let in-loop = c .before .before .before .before in
     let lines = in-loop .before in
-    line-fits _ _ _ _ _ (fit-lines (the-turn lines)) _ _ _ (in-loop .loop3-test .taken) (lines .loop3 .inv .1) (sym (c .before .same-number .ensures) ∙ c .if1 .taken)
+    line-fits _ _ _ _ _ (fit-lines (the-turn lines)) _ _ _ (in-loop .loop3-test .taken) (lines .loop3 .inv .1) (sym (c .before .same-key .ensures) ∙ c .if1 .taken)
 
 its-took : (c : tie.After-allocate Inv-loop μ-loop Inv-loop3 μ-loop3 Inv-loop4 μ-loop4 Inv-loop2 μ-loop2) → let lines = c .before .before .before .before .before .before .before in let l = lines .loop3 in Took (stateAt (l .states) (lineAt (start-of (the-turn lines) .args .t1 .directs) (l .q) .source)) (c .allocate .result)
 its-took c = line-directs _ _ _ (its-line (c .before .before)) (c .allocate .ensures)
@@ -350,21 +350,21 @@ loop3-again c =
     (λ w.
     let at-allocate : tie.After-allocate Inv-loop μ-loop Inv-loop3 μ-loop3 Inv-loop4 μ-loop4 Inv-loop2 μ-loop2 = record { before = record { before = record { before = c .before; if1 = w .0 }; s = w .1 }; allocate = w .2 } in (
       omega (arith, l),
-      rw (w .13, w .18) (taken-take _ _ _ _ _ (fit-lines turn) _ _ _ _ l (i .1) (sym (c .before .same-number .ensures) ∙ w .0 .taken) (w .2 .ensures)),
+      rw (w .13, w .18) (taken-take _ _ _ _ _ (fit-lines turn) _ _ _ _ l (i .1) (sym (c .before .same-key .ensures) ∙ w .0 .taken) (w .2 .ensures)),
       rw (w .12, w .13) (row-more _ _ _ _ _ _ _ _ _ _ (lead-small (lines .before)) s n z (ready-stands _ (so-far lines .ready source)) (ready-stands _ (its-ready at-allocate)) refl (w .6 .ensures) (i .2)),
       rw (w .13, w .14, w .15, w .16, w .17) (lines-renewed (i .3) n s z (its-took at-allocate .plant) (w .11 .ensures)),
       rw (w .13) (length-set (lines .loop3 .states) source (w .2 .result) ∙ i .4),
     ))
     (λ w. (
       omega (arith, l),
-      rw (w .2, w .7) (taken-skip _ _ _ _ _ _ _ (i .1) (sym (c .before .same-number .ensures) ∙ w .0 .left)),
+      rw (w .2, w .7) (taken-skip _ _ _ _ _ _ _ (i .1) (sym (c .before .same-key .ensures) ∙ w .0 .left)),
       rw (w .1, w .2) (i .2),
       rw (w .2, w .3, w .4, w .5, w .6) (i .3),
       rw (w .2) (i .4),
     ))
     (c .if1 .came)
 
-took-all : (c : tie.After-loop3 Inv-loop μ-loop Inv-loop3 μ-loop3 Inv-loop4 μ-loop4 Inv-loop2 μ-loop2) → let lines = c .before in let turn = the-turn lines in let a = start-of turn .args in let l = turn .before .loop2 in LinesTaken (member (a .t2) (l .next .number)) (a .t1 .directs) (l .states) (a .t1 .nsources) (a .t1 .ndirects) (lines .loop3 .states) (lines .loop3 .took)
+took-all : (c : tie.After-loop3 Inv-loop μ-loop Inv-loop3 μ-loop3 Inv-loop4 μ-loop4 Inv-loop2 μ-loop2) → let lines = c .before in let turn = the-turn lines in let a = start-of turn .args in let l = turn .before .loop2 in LinesTaken (member (a .t2) (l .next .key)) (a .t1 .directs) (l .states) (a .t1 .nsources) (a .t1 .ndirects) (lines .loop3 .states) (lines .loop3 .took)
 took-all c = taken-all _ _ _ _ _ _ _ _ (c .before .loop3 .inv .0) (c .loop3-test .left) (c .before .loop3 .inv .1)
 
 directed-ready : (c : tie.After-loop3 Inv-loop μ-loop Inv-loop3 μ-loop3 Inv-loop4 μ-loop4 Inv-loop2 μ-loop2) → AllReady (c .before .loop3 .states) (start-of (the-turn (c .before)) .args .t1 .nsources)
@@ -375,14 +375,14 @@ directed-ready c = turn-ready _ _ _ _ _ _ (fits (the-turn (c .before))) _ (took-
 total-of-requires : tie.Need-total-of-requires Inv-loop μ-loop Inv-loop3 μ-loop3 Inv-loop4 μ-loop4 Inv-loop2 μ-loop2
 total-of-requires c κs =
     let turn = the-turn (c .before) in
-    mwhs-small _ _ (start-of turn .pre .1) (turn-deliveries _ _ _ _ _ _ (fits turn))
+    mwhs-small _ _ (start-of turn .pre .2) (turn-deliveries _ _ _ _ _ _ (fits turn))
 
-worked : (c : Total) → let lines = the-lines c in let turn = the-turn lines in let a = start-of turn .args in let l = turn .before .loop2 in Worked (a .t1) (a .t2) (l .next .number) (l .states) (lines .loop3 .states) (c .total-of .result) (lines .loop3 .took)
+worked : (c : Total) → let lines = the-lines c in let turn = the-turn lines in let a = start-of turn .args in let l = turn .before .loop2 in Worked (a .t1) (a .t2) (l .next .key) (l .states) (lines .loop3 .states) (c .total-of .result) (lines .loop3 .took)
 worked c =
     let turn = the-turn (the-lines c) in
     let start = start-of turn in
     let t = took-all (c .before) in
-    record { lines = t .states; mwh = total-scheduled _ _ (start .pre .1) (start .args .t2) (turn .before .loop2 .next .number) _ (c .total-of .ensures .0); taken = t .sum }
+    record { lines = t .states; mwh = total-scheduled _ _ (start .pre .2) (start .args .t2) (turn .before .loop2 .next .key) _ (c .total-of .ensures .0); taken = t .sum }
 
 few-of : (c : First) → start-of (the-turn (the-lines (the-total c))) .args .t1 .nsources ≤ 32
 few-of c = few-sources (start-of (the-turn (the-lines (the-total c))))
@@ -397,7 +397,7 @@ take-first-requires c κs =
     (first-sources (lines .loop3 .inv .3) (few-sources (start-of (the-turn lines))) (ltb (total .total-of .result) (lines .loop3 .took)), refl)
 
 -- what the first way moves is the remainder
-rest : (c : tie.Then2 Inv-loop μ-loop Inv-loop3 μ-loop3 Inv-loop4 μ-loop4 Inv-loop2 μ-loop2) → let total = the-total (c .before) in let lines = the-lines total in let turn = the-turn lines in Rest (turn .before .loop2 .next .number) (start-of turn .args .t1 .nsources) (total .total-of .result) (lines .loop3 .took) (lines .loop3 .states) (c .before .take-first .last .1 .1 .1 .1 .1 .1 .1 .1 .1 .0)
+rest : (c : tie.Then2 Inv-loop μ-loop Inv-loop3 μ-loop3 Inv-loop4 μ-loop4 Inv-loop2 μ-loop2) → let total = the-total (c .before) in let lines = the-lines total in let turn = the-turn lines in Rest (turn .before .loop2 .next .key .number) (start-of turn .args .t1 .nsources) (total .total-of .result) (lines .loop3 .took) (lines .loop3 .states) (c .before .take-first .last .1 .1 .1 .1 .1 .1 .1 .1 .1 .0)
 rest c =
     let at-distance = c .before .before .before .before .before .before .before .before in
     let past-lines = at-distance .before .before in
@@ -508,7 +508,7 @@ loop4-again c =
     (c .if3 .came)
 
 rested-first : (c : tie.After-loop4 Inv-loop μ-loop Inv-loop3 μ-loop3 Inv-loop4 μ-loop4 Inv-loop2 μ-loop2) → let total = the-total (c .before .before .before) in let lines = the-lines total in let turn = the-turn lines in let a = start-of turn .args in let t = turn .before .loop2 in let l = c .before .loop4 in
-    Rested (a .t1) (a .t2) (t .next .number) (t .states) (lines .loop3 .states) (total .total-of .result) (lines .loop3 .took) (l .states) (t .step) (l .down) (l .room) (l .above) (l .head) (lines .before .lead-of .result) (t .kept) (l .kept)
+    Rested (a .t1) (a .t2) (t .next .key) (t .states) (lines .loop3 .states) (total .total-of .result) (lines .loop3 .took) (l .states) (t .step) (l .down) (l .room) (l .above) (l .head) (lines .before .lead-of .result) (t .kept) (l .kept)
 rested-first c =
     let in-if2 = c .before .before in
     let lines = the-lines (the-total (in-if2 .before)) in
@@ -538,7 +538,7 @@ returns c =
 
 -- what the other ways leave
 left-by-ladder : (c : tie.After-enum-told Inv-loop μ-loop Inv-loop3 μ-loop3 Inv-loop4 μ-loop4 Inv-loop2 μ-loop2) → let at-settle = c .before .before in let total = the-total (at-settle .before .before) in let lines = the-lines total in let turn = the-turn lines in
-    remainder (turn .before .loop2 .next .number) (start-of turn .args .t1 .nsources) (total .total-of .result) (lines .loop3 .took) (lines .loop3 .states) ≡ accepted (at-settle .settle .result .states)
+    remainder (turn .before .loop2 .next .key .number) (start-of turn .args .t1 .nsources) (total .total-of .result) (lines .loop3 .took) (lines .loop3 .states) ≡ accepted (at-settle .settle .result .states)
 left-by-ladder c = accepted-outcome _ _ _ (c .before .before .settle .ensures) (c .enum-told .given .1)
 
 ladder-ready : (c : tie.After-enum-told Inv-loop μ-loop Inv-loop3 μ-loop3 Inv-loop4 μ-loop4 Inv-loop2 μ-loop2) → let at-settle = c .before .before in AllReady (at-settle .settle .result .states) (start-of (the-turn (the-lines (the-total (at-settle .before .before)))) .args .t1 .nsources)
@@ -559,7 +559,7 @@ line-up-requires c κs =
     (ladder-ready at-enum-told, (f .steps .long, f .lower .long-one, f .lower .long-cap, f .raise .long-one, f .raise .long-cap))
 
 rested-by-ladder : (c : tie.After-line-up Inv-loop μ-loop Inv-loop3 μ-loop3 Inv-loop4 μ-loop4 Inv-loop2 μ-loop2) → let at-keep-all = c .before .before .before .before .before .before in let at-settle = at-keep-all .before .before .before .before .before in let total = the-total (at-settle .before .before) in let lines = the-lines total in let turn = the-turn lines in let a = start-of turn .args in let t = turn .before .loop2 in let r = c .line-up .last in
-    Rested (a .t1) (a .t2) (t .next .number) (t .states) (lines .loop3 .states) (total .total-of .result) (lines .loop3 .took) (at-settle .settle .result .states) (r .1 .1 .0) (r .1 .1 .1 .0) (r .1 .1 .1 .1 .0) (r .1 .1 .1 .1 .1 .0) (r .1 .1 .1 .1 .1 .1 .0) (lines .before .lead-of .result) (t .kept) (at-keep-all .keep-all .last .0)
+    Rested (a .t1) (a .t2) (t .next .key) (t .states) (lines .loop3 .states) (total .total-of .result) (lines .loop3 .took) (at-settle .settle .result .states) (r .1 .1 .0) (r .1 .1 .1 .0) (r .1 .1 .1 .1 .0) (r .1 .1 .1 .1 .1 .0) (r .1 .1 .1 .1 .1 .1 .0) (lines .before .lead-of .result) (t .kept) (at-keep-all .keep-all .last .0)
 rested-by-ladder c =
     let at-keep-all = c .before .before .before .before .before .before in
     let at-enum-told = at-keep-all .before .before .before in
@@ -572,7 +572,7 @@ rested-by-ladder c =
     }
 
 rested : (c : tie.Joined2 Inv-loop μ-loop Inv-loop3 μ-loop3 Inv-loop4 μ-loop4 Inv-loop2 μ-loop2) → let total = the-total (c .before) in let lines = the-lines total in let turn = the-turn lines in let a = start-of turn .args in let t = turn .before .loop2 in let l = c .if2 in
-    Rested (a .t1) (a .t2) (t .next .number) (t .states) (lines .loop3 .states) (total .total-of .result) (lines .loop3 .took) (l .states) (l .step) (l .down) (l .room) (l .above) (l .head) (lines .before .lead-of .result) (t .kept) (l .kept)
+    Rested (a .t1) (a .t2) (t .next .key) (t .states) (lines .loop3 .states) (total .total-of .result) (lines .loop3 .took) (l .states) (l .step) (l .down) (l .room) (l .above) (l .head) (lines .before .lead-of .result) (t .kept) (l .kept)
 rested c =
     ⊎-elim
     (λ w. rw (w .3, w .4, w .5, w .6, w .7, w .8, w .9) (rested-first (record { before = record { before = record { before = c .before; if2 = w .0 }; loop4 = w .1 }; loop4-test = w .2 })))
@@ -593,20 +593,20 @@ mul-led c = omega (arith, lead-small (the-lines (the-total (c .before)) .before)
 element-write-led : tie.Need-element-write-led Inv-loop μ-loop Inv-loop3 μ-loop3 Inv-loop4 μ-loop4 Inv-loop2 μ-loop2
 element-write-led c = lead-small (the-lines (the-total (c .before)) .before)
 
-highest-below-requires-2 : tie.Need-highest-below-requires-2 Inv-loop μ-loop Inv-loop3 μ-loop3 Inv-loop4 μ-loop4 Inv-loop2 μ-loop2
-highest-below-requires-2 c κs = few-deliveries (start-of (the-turn (the-lines (the-total (c .before)))))
+next-after-requires-2 : tie.Need-next-after-requires-2 Inv-loop μ-loop Inv-loop3 μ-loop3 Inv-loop4 μ-loop4 Inv-loop2 μ-loop2
+next-after-requires-2 c κs = few-deliveries (start-of (the-turn (the-lines (the-total (c .before)))))
 
 loop2-less : tie.Need-loop2-less Inv-loop μ-loop Inv-loop3 μ-loop3 Inv-loop4 μ-loop4 Inv-loop2 μ-loop2
 loop2-less c =
     let turn = the-turn (the-lines (the-total (c .before .before))) in
-    omega (arith, past-most _ _ _ _ (c .highest-below2 .ensures), past-there (turn .before .loop2 .next) (turn .loop2-test .taken))
+    omega (arith, past-most _ _ _ _ (c .next-after2 .ensures), past-there (turn .before .loop2 .next) (turn .loop2-test .taken))
 
 loop2-again : tie.Need-loop2-again Inv-loop μ-loop Inv-loop3 μ-loop3 Inv-loop4 μ-loop4 Inv-loop2 μ-loop2
 loop2-again c =
     let total = the-total (c .before .before) in
     let lines = the-lines total in
     let r = rested (c .before) in
-    (between-next _ _ _ _ _ _ _ (turn-done _ _ _ _ _ _ (fits (the-turn lines)) _ _ _ (worked total) _ (r .left) _ _ (lines .before .lead-of .ensures) (r .row)) (c .highest-below2 .ensures), r .lines, r .long)
+    (between-next _ _ _ _ _ _ _ _ (turn-done _ _ _ _ _ _ (fits (the-turn lines)) _ _ _ (worked total) _ (r .left) _ _ (lines .before .lead-of .ensures) (r .row)) (fits (the-turn lines) .rest) (c .next-after2 .ensures), r .lines, r .long)
 
 returns-2 : tie.Need-returns-2 Inv-loop μ-loop Inv-loop3 μ-loop3 Inv-loop4 μ-loop4 Inv-loop2 μ-loop2
 returns-2 c = all-turned _ _ _ _ _ _ (c .loop2-test .left) (c .before .loop2 .inv .0)
@@ -637,7 +637,7 @@ take-turns-spec =
     add-a
     loop-less
     loop-again
-    highest-below-requires
+    next-after-requires
     loop2-holds
     lead-of-requires
     loop3-holds
@@ -645,7 +645,7 @@ take-turns-spec =
     element-copy-out-line
     mul-its
     array-copy-out-its
-    same-number-requires
+    same-key-requires
     mul-s
     array-copy-out-s
     allocate-requires
@@ -688,7 +688,7 @@ take-turns-spec =
     add-led
     mul-led
     element-write-led
-    highest-below-requires-2
+    next-after-requires-2
     loop2-less
     loop2-again
     returns-2)
