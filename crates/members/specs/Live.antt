@@ -166,8 +166,8 @@ pub record ItemsReady (q : ℕ) (t : Amounts) (live sizes : List ℕ) (minus : L
   pub listed : Listed a q live sizes minus k
   pub room : q + pairWidth ≤ rowWidth
 
--- an item's number in a list of all
-item-read : {A : Type 0} (f : Item → A) (d : A) (k : ℕ) → k < pairWidth → getD (map f items) k d ≡ f (itemAt k)
+-- a number of each item in a list, read at an item's place
+pub item-read : {A : Type 0} (f : Item → A) (d : A) (k : ℕ) → k < pairWidth → getD (map f items) k d ≡ f (itemAt k)
 item-read f d zero l = refl
 item-read f d (suc zero) l = refl
 item-read f d (suc (suc zero)) l = refl
