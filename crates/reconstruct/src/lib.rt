@@ -1,7 +1,7 @@
-// Document 01's whole hour: every group from the highest number down, by either engine, and the answer's cells into a lent buffer.
+// Document 01's whole hour: every group in its turn, by either engine, and the answer's cells into a lent buffer.
 // The promise cites rules' Calls: reconstruction, cellsFor for the part below 15, and leaves for the buffer; and Answers. The other contracts cite specs/.
 use rules::Hour;
-use rules::InternalSequence;
+use rules::Key;
 use rules::Refusal;
 use rules::Running;
 use rules::Verdict;
@@ -78,9 +78,9 @@ fn clear(cells: &mut [i64], n: usize)
     }
 }
 
-// The cells of a valid hour whose deliveries have these numbers, by either engine: 14, then the first group that meets 12 or 13.
-pub fn fill(h: Hour, numbers: [InternalSequence; 32], by_price: bool, out: &mut [i64]) -> Written
-    requires { ⌜ (valid h ≡ true) × (numbers ≡ placings (h .deliveries) (h .ndeliveries)) ⌝ }
+// The cells of a valid hour whose deliveries have these keys, by either engine: 14, then the first group that meets 12 or 13.
+pub fn fill(h: Hour, keys: [Key; 32], by_price: bool, out: &mut [i64]) -> Written
+    requires { ⌜ (valid h ≡ true) × (keys ≡ placings (h .deliveries) (h .ndeliveries)) ⌝ }
     ensures outcome { λ r. ⌜ r ≡ writtenOf (cellsFor h (length (now (out .entry)))) ⌝ }
     ensures cells { λ _. ⌜ now (out .exit) ≡ leaves (cellsFor h (length (now (out .entry)))) (now (out .entry)) ⌝ }
 {
@@ -96,13 +96,13 @@ pub fn fill(h: Hour, numbers: [InternalSequence; 32], by_price: bool, out: &mut 
     members::list_mwhs(deliveries, m, &mut mwhs);
     let mut led: [u64; 32] = [0; 32];
     let mut kept: [u64; 1024] = [0; 1024];
-    let end = groups::take_turns(h, numbers, by_price, &mwhs, &mut led, &mut kept);
+    let end = groups::take_turns(h, keys, by_price, &mwhs, &mut led, &mut kept);
     let verdict = end.verdict;
     match verdict {
         Verdict::Accepted => {
             let states = end.states;
             clear(out, pairs);
-            members::share_all(out, n, m, &mwhs, numbers, &led, states, &kept);
+            members::share_all(out, n, m, &mwhs, keys, &led, states, &kept);
             put_open(out, pairs, states, n);
             Written::Count(count)
         }
@@ -117,8 +117,8 @@ pub fn cells_of(h: Hour, by_price: bool, out: &mut [i64]) -> Written
     ensures cells { λ _. ⌜ now (out .exit) ≡ leaves (cellsFor h (length (now (out .entry)))) (now (out .entry)) ⌝ }
 {
     let deliveries = h.deliveries;
-    let numbers = sequence::numbers(deliveries, h.ndeliveries);
-    fill(h, numbers, by_price, out)
+    let keys = sequence::keys(deliveries, h.ndeliveries);
+    fill(h, keys, by_price, out)
 }
 
 // By the plain rule, one MWh at a time.

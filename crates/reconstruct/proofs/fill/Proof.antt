@@ -3,7 +3,8 @@ use mathlib.Core.Path.{_≡_, refl}
 use native.Mathlib.Omega.{arith}
 use borrow.Author.Needs.{needs}
 use Rattle.groups.specs.MwhsListed.{hour-mwhs}
-use Rattle.reconstruct.specs.WholeAnswer.{too-short, cells-few, count-few, Ran, hour-refused, shares-fit, open-fits, hour-done}
+use Rattle.balance.specs.CellsAreFew.{cells-few, count-few}
+use Rattle.reconstruct.specs.WholeAnswer.{keys-of, too-short, Ran, hour-refused, shares-fit, open-fits, hour-done}
 use Rattle.roundtrip.specs.GivenHour.{valid-given}
 use Rattle.rules.specs.declared.Verdict.the-variants.{Accepted}
 use Rattle.reconstruct.proofs.fill.Statement.{statement}
@@ -23,7 +24,7 @@ the-clear c = c .before .before .before .before .before .before
 ran : (c : tie.After-take-turns) →
     let a = past-14 c .before .args in
     let t = c .take-turns .last .1 .1 .1 .1 in
-    Ran (a .h) (a .numbers) (c .take-turns .result) (c .before .before .before .before .list-mwhs .last .1 .1 .0) (t .0) (t .1 .0)
+    Ran (a .h) (a .keys) (c .take-turns .result) (c .before .before .before .before .list-mwhs .last .1 .1 .0) (t .0) (t .1 .0)
 ran c =
     let start = past-14 c .before in
     record { valid = start .pre .0; placed = start .pre .1; turned = c .take-turns .ensures; listed = c .before .before .before .before .list-mwhs .ensures }
@@ -55,7 +56,7 @@ take-turns-requires : tie.Need-take-turns-requires
 take-turns-requires c κs =
     let at-list-mwhs = c .before .before .before in
     let start = at-list-mwhs .before .before .before .before in
-    (start .pre .0, hour-mwhs _ _ (at-list-mwhs .list-mwhs .ensures), record { led = refl; kept = refl })
+    (start .pre .0, keys-of _ _ (start .pre .1), hour-mwhs _ _ (at-list-mwhs .list-mwhs .ensures), record { led = refl; kept = refl })
 
 enum-told : tie.Need-enum-told
 enum-told c = search needs
