@@ -8,7 +8,7 @@ use lib.ListN.{length, getD, length-append}
 use lib.Seq.{getD-append-add}
 use Rattle.laws.specs.Choices.{accepted-same, Both, then-passed}
 use Rattle.laws.specs.Sums.{listTo-length, listTo-read}
-use Rattle.rules.specs.Hour.{Progress, reconstructed, pairCells, openCells, cellsOf, cellCount, answer}
+use Rattle.rules.specs.Hour.{Progress, reconstructed, pairCells, openCells, pairWidth, openWidth, cellsOf, cellCount, answer}
 use Rattle.rules.specs.Refusals.{accepted}
 use Rattle.rules.specs.Words.{listTo}
 use Rattle.rules.specs.declared.Hour.{Hour}
@@ -16,43 +16,43 @@ use Rattle.rules.specs.declared.Hour.{Hour}
 abbrev pub cellAt : List ℤ → ℕ → ℤ
 cellAt xs k = getD xs k (pos 0)
 
--- the place of cell k (0 to 3) of delivery j and source i, and of cell k (0 or 1) of source i's open energy
+-- the place of cell k of delivery j and source i, and of cell k of source i's open energy
 abbrev pub pairPlace : Hour → ℕ → ℕ → ℕ → ℕ
-pairPlace h j i k = j * (h .nsources * 4) + (i * 4 + k)
+pairPlace h j i k = j * (h .nsources * pairWidth) + (i * pairWidth + k)
 
 abbrev pub openPlace : Hour → ℕ → ℕ → ℕ
-openPlace h i k = h .ndeliveries * (h .nsources * 4) + (i * 2 + k)
+openPlace h i k = h .ndeliveries * (h .nsources * pairWidth) + (i * openWidth + k)
 
 module _ (h : Hour) (p : Progress) where
   abbrev row : ℕ → List ℤ
   row j = listTo (pairCells (p .cells) j) (h .nsources)
 
-  row-length : (j : ℕ) → length (row j) ≡ h .nsources * 4
-  row-length j = listTo-length (pairCells (p .cells) j) 4 (λ k. refl) (h .nsources)
+  row-length : (j : ℕ) → length (row j) ≡ h .nsources * pairWidth
+  row-length j = listTo-length (pairCells (p .cells) j) pairWidth (λ k. refl) (h .nsources)
 
-  rows-length : length (listTo row (h .ndeliveries)) ≡ h .ndeliveries * (h .nsources * 4)
-  rows-length = listTo-length row (h .nsources * 4) row-length (h .ndeliveries)
+  rows-length : length (listTo row (h .ndeliveries)) ≡ h .ndeliveries * (h .nsources * pairWidth)
+  rows-length = listTo-length row (h .nsources * pairWidth) row-length (h .ndeliveries)
 
-  pub pair-at : (j i k : ℕ) → j < h .ndeliveries → i < h .nsources → k < 4 → cellAt (cellsOf h p) (pairPlace h j i k) ≡ getD (pairCells (p .cells) j i) k (pos 0)
+  pub pair-at : (j i k : ℕ) → j < h .ndeliveries → i < h .nsources → k < pairWidth → cellAt (cellsOf h p) (pairPlace h j i k) ≡ getD (pairCells (p .cells) j i) k (pos 0)
   unfolding cellsOf
   pair-at j i k a b c =
-      listTo-read row (h .nsources * 4) row-length (h .ndeliveries) j (i * 4 + k) (pos 0) (listTo (openCells (p .states)) (h .nsources)) a (omega arith) ∙
-      ap (λ (x : List ℤ). getD x (i * 4 + k) (pos 0)) (sym (append-nil (row j))) ∙ listTo-read (pairCells (p .cells) j) 4 (λ y. refl) (h .nsources) i k (pos 0) [] b c
+      listTo-read row (h .nsources * pairWidth) row-length (h .ndeliveries) j (i * pairWidth + k) (pos 0) (listTo (openCells (p .states)) (h .nsources)) a (omega arith) ∙
+      ap (λ (x : List ℤ). getD x (i * pairWidth + k) (pos 0)) (sym (append-nil (row j))) ∙ listTo-read (pairCells (p .cells) j) pairWidth (λ y. refl) (h .nsources) i k (pos 0) [] b c
 
-  pub open-at : (i k : ℕ) → i < h .nsources → k < 2 → cellAt (cellsOf h p) (openPlace h i k) ≡ getD (openCells (p .states) i) k (pos 0)
+  pub open-at : (i k : ℕ) → i < h .nsources → k < openWidth → cellAt (cellsOf h p) (openPlace h i k) ≡ getD (openCells (p .states) i) k (pos 0)
   unfolding cellsOf
   open-at i k b c =
-      let z : openPlace h i k ≡ length (listTo row (h .ndeliveries)) + (i * 2 + k) = omega (arith, rows-length) in
+      let z : openPlace h i k ≡ length (listTo row (h .ndeliveries)) + (i * openWidth + k) = omega (arith, rows-length) in
       ap (cellAt (listTo row (h .ndeliveries) ++ listTo (openCells (p .states)) (h .nsources))) z ∙
-      getD-append-add (listTo row (h .ndeliveries)) (listTo (openCells (p .states)) (h .nsources)) (i * 2 + k) (pos 0) ∙
-      ap (λ (x : List ℤ). getD x (i * 2 + k) (pos 0)) (sym (append-nil (listTo (openCells (p .states)) (h .nsources)))) ∙
-      listTo-read (openCells (p .states)) 2 (λ y. refl) (h .nsources) i k (pos 0) [] b c
+      getD-append-add (listTo row (h .ndeliveries)) (listTo (openCells (p .states)) (h .nsources)) (i * openWidth + k) (pos 0) ∙
+      ap (λ (x : List ℤ). getD x (i * openWidth + k) (pos 0)) (sym (append-nil (listTo (openCells (p .states)) (h .nsources)))) ∙
+      listTo-read (openCells (p .states)) openWidth (λ y. refl) (h .nsources) i k (pos 0) [] b c
 
   pub cells-length : length (cellsOf h p) ≡ cellCount h
   unfolding cellsOf
   cells-length =
       length-append (listTo row (h .ndeliveries)) (listTo (openCells (p .states)) (h .nsources)) ∙
-      omega (arith, rows-length, listTo-length (openCells (p .states)) 2 (λ k. refl) (h .nsources))
+      omega (arith, rows-length, listTo-length (openCells (p .states)) openWidth (λ k. refl) (h .nsources))
 
 -- an answer's cells are those of a whole run
 pub record Answered (h : Hour) (xs : List ℤ) : Type 0 where

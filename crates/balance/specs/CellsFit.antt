@@ -1,6 +1,6 @@
 -- Where the plants' numbers are in document 01's ranges, every cell of an answer is at most 10^14 in size, and so fits 64 signed bits.
 use mathlib.Core.Bool.{Bool, true, false}
-use mathlib.Core.List.{List, [], _∷_, _++_}
+use mathlib.Core.List.{List, [], _∷_, _++_, append-nil}
 use mathlib.Core.Path.{_≡_}
 use Prim.Native.Nat.{ℕ, zero, suc, _+_, _-_, _^_, _≤_, _<_}
 use native.Mathlib.Omega.{arith}
@@ -9,18 +9,19 @@ use lib.Signed.{mag}
 use mir.Syntax.{w64}
 use mir.Val.{SFits, hbits}
 use Rattle.balance.specs.AnswerCells.{cellAt, answer-cells}
-use Rattle.balance.specs.HourBalances.{plantAt, Given, started, started-at, afterLines, Grouped, groups-keep, Balanced, lines-directed, start-balanced, none-balanced, grouped-balanced}
+use Rattle.balance.specs.HourBalances.{plantAt, Given, opening-at, afterLines, Grouped, groups-keep, Balanced, lines-directed, start-balanced, grouped-balanced}
 use Rattle.balance.specs.SharesMakeUpTheAmount.{share-most}
-use Rattle.laws.specs.Internal.{internal}
+use Rattle.laws.specs.Keys.{among, first-once, Turns}
+use Rattle.balance.specs.KeysOfAnHour.{hour-turns}
 use Rattle.merit.specs.LevelNeverBelowB.{Sound, stateAt, Took, moved-sound}
-use Rattle.merit.specs.NumbersStaySmall.{PlantSmall, Small, level-small, changed-small, paid-small, opened-small, took-small, shift-small}
+use Rattle.merit.specs.NumbersStaySmall.{PlantSmall, Small, level-small, changed-small, charged-small, opened-small, took-small, shift-small}
 use Rattle.merit.specs.RemainderMoves.{Shift, shift-moved, remainder-moves}
 use Rattle.rules.specs.Group.{level, Amount, signed, Item, directMwh, incrementalMwh, directCost, incrementalCost, amount}
-use Rattle.rules.specs.Hour.{numbers, member, share, Cells, Progress, shared, groups, reconstructed, pairCells, openCells, cellsOf, answer}
+use Rattle.rules.specs.Hour.{keys, member, share, Cells, Progress, shared, turns, groups, opening, reconstructed, pairCells, openCells, cellsOf, answer}
 use Rattle.rules.specs.Refusals.{accepted}
 use Rattle.rules.specs.Words.{if_then_else_, listTo}
 use Rattle.rules.specs.declared.Hour.{Hour}
-use Rattle.rules.specs.declared.InternalSequence.{InternalSequence}
+use Rattle.rules.specs.declared.Key.{Key}
 use Rattle.rules.specs.declared.Running.{Running}
 
 pub record SmallHour (h : Hour) : Type 0 where
@@ -38,45 +39,45 @@ signed-small false x h = h
 amount-small : (item : Item) (s t u : Running) → Sound t → Sound u → Small t → Small u → amount item s t u .size ≤ 100_000_000_000_000
 amount-small directMwh s t u gt gu lt lu = omega (arith, gt .part, lt .b)
 amount-small incrementalMwh s t u gt gu lt lu = omega (arith, level-small t gt lt, level-small u gu lu)
-amount-small directCost s t u gt gu lt lu = omega (arith, paid-small t gt lt)
+amount-small directCost s t u gt gu lt lu = omega (arith, charged-small t gt lt)
 amount-small incrementalCost s t u gt gu lt lu =
     omega (arith, changed-small t lt (level t) (level-small t gt lt), changed-small u lu (level u) (level-small u gu lu))
 
-module _ (h : Hour) (ns : List InternalSequence) where
+module _ (h : Hour) (ks : List Key) where
   -- where a run stands
   pub record Bounded (p : Progress) : Type 0 where
     pub states : (i : ℕ) → Small (stateAt (p .states) i)
     pub cells : (j i : ℕ) (item : Item) → j < h .ndeliveries → SmallCell (p .cells j i item)
 
-  shared-small : (x : InternalSequence) (ss ts us : List Running) (cell : Cells) (j i : ℕ) (item : Item) → j < h .ndeliveries → amount item (stateAt ss i) (stateAt ts i) (stateAt us i) .size ≤ 100_000_000_000_000 →
-      SmallCell (cell j i item) → SmallCell (shared h ns x ss ts us cell j i item)
+  shared-small : (x : Key) (ss ts us : List Running) (cell : Cells) (j i : ℕ) (item : Item) → j < h .ndeliveries → amount item (stateAt ss i) (stateAt ts i) (stateAt us i) .size ≤ 100_000_000_000_000 →
+      SmallCell (cell j i item) → SmallCell (shared h ks x ss ts us cell j i item)
   unfolding shared
-  shared-small x ss ts us cell j i item l small old = go (member ns x j)
+  shared-small x ss ts us cell j i item l small old = go (member ks x j)
     where
       a : Amount
       a = amount item (stateAt ss i) (stateAt ts i) (stateAt us i)
 
-      go : (y : Bool) → SmallCell (if y then share h ns x a j else cell j i item)
-      go true = let m = share-most h ns x a j l in rw (m .1) (signed-small (a .minus) (m .0) (omega (arith, m .2)))
+      go : (y : Bool) → SmallCell (if y then share h ks x a j else cell j i item)
+      go true = let m = share-most h ks x a j l in rw (m .1) (signed-small (a .minus) (m .0) (omega (arith, m .2)))
       go false = old
 
-  grouped-bounded : (x : ℕ) (p q : Progress) → Balanced h ns (suc x) p → Grouped h ns x p q → Bounded p → Bounded q
-  grouped-bounded x p q b g k =
+  grouped-bounded : (x : Key) (xs : List Key) (p q : Progress) → among xs x ≡ false → Balanced h ks (x ∷ xs) p → Grouped h ks x p q → Bounded p → Bounded q
+  grouped-bounded x xs p q once b g k =
       rw (g .is)
       (record {
         states = smallAfter;
-        cells = λ j i item l. shared-small (internal x) (p .states) ts us (p .cells) j i item l
+        cells = λ j i item l. shared-small x (p .states) ts us (p .cells) j i item l
             (amount-small item (stateAt (p .states) i) (stateAt ts i) (stateAt us i) (took i .sound) (moved-sound _ _ (took i .sound) (shift-moved (took i .sound) (moves i))) (smallLines i) (smallAfter i)) (k .cells j i item l);
       })
     where
       ts : List Running
-      ts = afterLines h ns x p
+      ts = afterLines h ks x p
 
       us : List Running
       us = g .us
 
       took : (i : ℕ) → Took (stateAt (p .states) i) (stateAt ts i)
-      took i = lines-directed h ns x p b i .took
+      took i = lines-directed h ks x xs p once b i .took
 
       moves : (i : ℕ) → Shift (stateAt ts i) (stateAt us i)
       moves = remainder-moves _ _ _ _ ts us (g .done) .each
@@ -87,13 +88,15 @@ module _ (h : Hour) (ns : List InternalSequence) where
       smallAfter : (i : ℕ) → Small (stateAt us i)
       smallAfter i = shift-small (smallLines i) (moves i)
 
-  start-bounded : SmallHour h → Bounded (started h ns)
-  start-bounded l = record { states = λ i. rw (started-at h ns i) (opened-small (plantAt h i) (l .plants i)); cells = λ j i item y. omega arith }
+  start-bounded : SmallHour h → Bounded (opening h)
+  start-bounded l = record { states = λ i. rw (opening-at h ks i) (opened-small (plantAt h i) (l .plants i)); cells = λ j i item y. omega arith }
 
-  pub groups-bounded : Given h → SmallHour h → (k : ℕ) → k ≤ 1000 → (p : Progress) → groups h ns k ≡ accepted p → Balanced h ns (1000 - k) p × Bounded p
-  groups-bounded g l =
-      groups-keep h ns (λ x p. Balanced h ns x p × Bounded p) (start-balanced h ns g, start-bounded l) (λ x p z b. (none-balanced h ns x p (b .0), b .1))
-      (λ x p q b s. (grouped-balanced h ns x p q (b .0) s, grouped-bounded x p q (b .0) s (b .1)))
+  -- wherever a run stands, when the groups of xs are still to come
+  pub groups-bounded : Given h → SmallHour h → (ys xs : List Key) → Turns ks (h .ndeliveries) (ys ++ xs) → (q : Progress) → groups h ks ys (opening h) ≡ accepted q → Balanced h ks xs q × Bounded q
+  groups-bounded g l ys xs t q e =
+      groups-keep h ks (λ zs p. Balanced h ks zs p × Bounded p)
+      (λ x zs p r u b s. (grouped-balanced h ks x zs p r u (b .0) s, grouped-bounded x zs p r (first-once x zs (u .ordered)) (b .0) s (b .1)))
+      ys xs (opening h) q t (start-balanced h ks g (ys ++ xs), start-bounded l) e
 
 -- a list of small cells, read anywhere
 
@@ -120,7 +123,7 @@ unfolding listTo
 listTo-small f zero h = nil-small
 listTo-small f (suc n) h = append-small (listTo f n) (f n) (listTo-small f n (λ i l. h i (omega arith))) (h n (omega arith))
 
-module _ (h : Hour) (p : Progress) (sound : (i : ℕ) → Sound (stateAt (p .states) i)) (b : Bounded h (numbers h) p) where
+module _ (h : Hour) (p : Progress) (sound : (i : ℕ) → Sound (stateAt (p .states) i)) (b : Bounded h (keys h) p) where
   pair-small : (j i : ℕ) → j < h .ndeliveries → SmallCells (pairCells (p .cells) j i)
   pair-small j i l =
       cons-small _ _ (b .cells j i directMwh l) (cons-small _ _ (b .cells j i incrementalMwh l)
@@ -143,7 +146,7 @@ unfolding SmallCells reconstructed
 answer-small h g l xs e =
     let a = answer-cells h xs e in
     let p = a .progress in
-    let b = groups-bounded h (numbers h) g l 1000 (omega arith) p (a .run) in
+    let b = groups-bounded h (keys h) g l (turns (keys h)) [] (rw (append-nil (turns (keys h))) (hour-turns h)) p (a .run) in
     rw (a .is) (cells-small h p (b .0 .sound) (b .1))
 
 pub answer-fits : (h : Hour) → Given h → SmallHour h → (xs : List ℤ) → answer h ≡ accepted xs → (k : ℕ) → SFits w64 (cellAt xs k)

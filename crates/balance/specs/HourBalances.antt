@@ -1,26 +1,22 @@
 -- The balance while the hour runs: after each group, for each source, what deliveries were given and what is still open make up its generation and its cost.
-use mathlib.Core.Bool.{Bool, true, false}
-use mathlib.Core.List.{List, map}
-use mathlib.Core.Logic.{_⊎_, inl, inr}
+use mathlib.Core.Bool.{Bool, true, false, _||_}
+use mathlib.Core.List.{List, [], _∷_, _++_}
 use mathlib.Core.Path.{_≡_, refl, sym, ap, _∙_}
-use Prim.Native.Nat.{ℕ, zero, suc, _+_, _-_, _≤_, _<_}
-use native.Mathlib.Decide.{decLt}
+use Prim.Native.Nat.{ℕ, _+_, _≤_, _<_}
 use native.Mathlib.Omega.{arith}
-use borrow.Author.Tests.{ne-eqb, eqb-true, eqb-false, lt-ltb, le-ltb}
-use lib.Dec.{ltb, eqb}
 use lib.IntN.{pos, _+ℤ_, +ℤ-idl, +ℤ-idr}
-use lib.ListN.{getD, List·getD-map}
+use lib.ListN.{length, getD, List·getD-map}
 use Rattle.balance.specs.SharesMakeUpTheAmount.{shares-sum, share-none}
 use Rattle.balance.specs.TakenAndLeft.{worth, opened-worth, group-mwh, group-cost}
-use Rattle.laws.specs.Choices.{accepted-same, Both, then-passed}
-use Rattle.laws.specs.Internal.{internal, number-other}
+use Rattle.laws.specs.Choices.{accepted-same, Both, then-passed, true-not-false}
+use Rattle.laws.specs.Keys.{key-same, among, first-once, Turns, turns-rest, turns-first}
 use Rattle.laws.specs.Signed.{value, sumℤ, sumℤ-zero, sumℤ-carried}
 use Rattle.laws.specs.Sums.{sumTo-most, sumTo-add}
 use Rattle.merit.specs.ChangedFromB.{Starts}
 use Rattle.merit.specs.LevelNeverBelowB.{Sound, opened-sound, stateAt, percentOf, percents, Directed, groupLines-directed, Moved, moved-sound}
 use Rattle.merit.specs.RemainderMoves.{shift-moved, remainder-moves}
 use Rattle.rules.specs.Group.{noDirect, opened, groupLines, remainder, Amount, Item, directMwh, incrementalMwh, directCost, incrementalCost, amount}
-use Rattle.rules.specs.Hour.{internalAt, member, scheduled, counted, share, Cells, Progress, shared, tookAll, rest, group, groups}
+use Rattle.rules.specs.Hour.{keyAt, member, scheduled, counted, share, Cells, Progress, shared, tookAll, rest, group, groups, opening}
 use Rattle.rules.specs.Reading.{percentsOf}
 use Rattle.rules.specs.Record.{noSource, sourceAt}
 use Rattle.rules.specs.Refusals.{Outcome, accepted, andThen}
@@ -28,7 +24,7 @@ use Rattle.rules.specs.Units.{generation, generationCost}
 use Rattle.rules.specs.Words.{if_then_else_}
 use Rattle.rules.specs.declared.Direct.{Direct}
 use Rattle.rules.specs.declared.Hour.{Hour}
-use Rattle.rules.specs.declared.InternalSequence.{InternalSequence}
+use Rattle.rules.specs.declared.Key.{Key}
 use Rattle.rules.specs.declared.Plant.{Plant}
 use Rattle.rules.specs.declared.Running.{Running}
 use Rattle.rules.specs.declared.Source.{Source}
@@ -40,132 +36,131 @@ plantAt h i = sourceAt h i .plant
 pub record Given (h : Hour) : Type 0 where
   pub starts : (i : ℕ) → Starts (plantAt h i)
   pub percents : (i : ℕ) → percentsOf h i ≤ 100
+  pub long : h .ndeliveries ≤ length (h .deliveries)
 
-module _ (h : Hour) (ns : List InternalSequence) where
+module _ (h : Hour) (ks : List Key) where
   -- One group.
 
-  abbrev pub afterLines : ℕ → Progress → List Running
-  afterLines x p = groupLines (member ns (internal x)) (h .directs) (p .states) (h .ndirects)
+  abbrev pub afterLines : Key → Progress → List Running
+  afterLines x p = groupLines (member ks x) (h .directs) (p .states) (h .ndirects)
 
   -- a group with members, from p to q
-  pub record Grouped (x : ℕ) (p q : Progress) : Type 0 where
-    pub members : 0 < counted ns (internal x) (h .ndeliveries)
+  pub record Grouped (x : Key) (p q : Progress) : Type 0 where
+    pub members : 0 < counted ks x (h .ndeliveries)
     pub us : List Running
-    pub done : remainder (internal x) (h .nsources) (scheduled h ns (internal x) (h .ndeliveries)) (tookAll (h .nsources) (p .states) (afterLines x p)) (afterLines x p) ≡ accepted us
-    pub is : q ≡ record { states = us; cells = shared h ns (internal x) (p .states) (afterLines x p) us (p .cells) }
+    pub done : remainder (x .number) (h .nsources) (scheduled h ks x (h .ndeliveries)) (tookAll (h .nsources) (p .states) (afterLines x p)) (afterLines x p) ≡ accepted us
+    pub is : q ≡ record { states = us; cells = shared h ks x (p .states) (afterLines x p) us (p .cells) }
 
-  pub group-passed : (x : ℕ) (p q : Progress) → group h ns (internal x) p ≡ accepted q → ((counted ns (internal x) (h .ndeliveries) ≡ 0) × (q ≡ p)) ⊎ Grouped x p q
+  group-passed : (x : Key) (p q : Progress) → 0 < counted ks x (h .ndeliveries) → group h ks x p ≡ accepted q → Grouped x p q
   unfolding group rest
-  group-passed x p q e = go (eqb (counted ns (internal x) (h .ndeliveries)) 0) refl e
+  group-passed x p q m e =
+      let b : Both done after q = then-passed done after q e in
+      record { members = m; us = b .mid; done = b .first; is = sym (accepted-same _ q (b .second)) }
     where
       after : List Running → Outcome Progress
-      after us = accepted (record { states = us; cells = shared h ns (internal x) (p .states) (afterLines x p) us (p .cells) })
+      after us = accepted (record { states = us; cells = shared h ks x (p .states) (afterLines x p) us (p .cells) })
 
       done : Outcome (List Running)
-      done = remainder (internal x) (h .nsources) (scheduled h ns (internal x) (h .ndeliveries)) (tookAll (h .nsources) (p .states) (afterLines x p)) (afterLines x p)
+      done = remainder (x .number) (h .nsources) (scheduled h ks x (h .ndeliveries)) (tookAll (h .nsources) (p .states) (afterLines x p)) (afterLines x p)
 
-      go : (y : Bool) → eqb (counted ns (internal x) (h .ndeliveries)) 0 ≡ y → (if y then accepted p else andThen done after) ≡ accepted q → ((counted ns (internal x) (h .ndeliveries) ≡ 0) × (q ≡ p)) ⊎ Grouped x p q
-      go true z a = inl (eqb-true (counted ns (internal x) (h .ndeliveries)) 0 z, sym (accepted-same p q a))
-      go false z a =
-          let b : Both done after q = then-passed done after q a in
-          let f = eqb-false (counted ns (internal x) (h .ndeliveries)) 0 z in
-          inr (record { members = omega arith; us = b .mid; done = b .first; is = sym (accepted-same _ q (b .second)) })
+  pub opening-at : (i : ℕ) → stateAt (opening h .states) i ≡ opened (plantAt h i)
+  opening-at i = List·getD-map (λ (s : Source). opened (s .plant)) (h .sources) i noSource
 
-  -- the hour's start, and what each group keeps
-  abbrev pub started : Progress
-  started = record { states = map (λ s. opened (s .plant)) (h .sources); cells = λ j i item. pos 0 }
-
-  pub started-at : (i : ℕ) → stateAt (started .states) i ≡ opened (plantAt h i)
-  started-at i = List·getD-map (λ (s : Source). opened (s .plant)) (h .sources) i noSource
-
-  pub groups-keep : (P : ℕ → Progress → Type 0) → P 1000 started → ((x : ℕ) (p : Progress) → counted ns (internal x) (h .ndeliveries) ≡ 0 → P (suc x) p → P x p) → ((x : ℕ) (p q : Progress) → P (suc x) p → Grouped x p q → P x q) →
-      (k : ℕ) → k ≤ 1000 → (p : Progress) → groups h ns k ≡ accepted p → P (1000 - k) p
+  -- what each group keeps, of the keys that are still to come, all groups do
+  pub groups-keep : (P : List Key → Progress → Type 0) → ((x : Key) (xs : List Key) (p q : Progress) → Turns ks (h .ndeliveries) (x ∷ xs) → P (x ∷ xs) p → Grouped x p q → P xs q) →
+      (ys xs : List Key) (p q : Progress) → Turns ks (h .ndeliveries) (ys ++ xs) → P (ys ++ xs) p → groups h ks ys p ≡ accepted q → P xs q
   unfolding groups
-  groups-keep P start skip turn zero l p e = rw (← accepted-same started p e) start
-  groups-keep P start skip turn (suc k) l q e =
-      let b : Both (groups h ns k) (group h ns (internal (999 - k))) q = then-passed (groups h ns k) (group h ns (internal (999 - k))) q e in
-      let up : 1000 - k ≡ suc (999 - k) = omega arith in
-      let down : 1000 - suc k ≡ 999 - k = omega arith in
-      let c : P (suc (999 - k)) (b .mid) = rw up at (groups-keep P start skip turn k (omega arith) (b .mid) (b .first)) in
-      rw down (elim (group-passed (999 - k) (b .mid) q (b .second)) [
-        | inl same ↦ rw (same .1) (skip (999 - k) (b .mid) (same .0) c)
-        | inr step ↦ turn (999 - k) (b .mid) q c step
-      ])
+  groups-keep P turn [] xs p q t k e = rw (← accepted-same p q e) k
+  groups-keep P turn (y ∷ ys) xs p q t k e =
+      let b : Both (group h ks y p) (groups h ks ys) q = then-passed (group h ks y p) (groups h ks ys) q e in
+      groups-keep P turn ys xs (b .mid) q (turns-rest ks (h .ndeliveries) y (ys ++ xs) t)
+      (turn y (ys ++ xs) p (b .mid) t k (group-passed y p (b .mid) (turns-first ks (h .ndeliveries) y (ys ++ xs) t) (b .first))) (b .second)
 
   -- its shares are added to the cells, where its members had nothing
-  pub shared-adds : (x : InternalSequence) (ss ts us : List Running) (cell : Cells) (j i : ℕ) (item : Item) → (member ns x j ≡ true → cell j i item ≡ pos 0) →
-      shared h ns x ss ts us cell j i item ≡ cell j i item +ℤ share h ns x (amount item (stateAt ss i) (stateAt ts i) (stateAt us i)) j
+  pub shared-adds : (x : Key) (ss ts us : List Running) (cell : Cells) (j i : ℕ) (item : Item) → (member ks x j ≡ true → cell j i item ≡ pos 0) →
+      shared h ks x ss ts us cell j i item ≡ cell j i item +ℤ share h ks x (amount item (stateAt ss i) (stateAt ts i) (stateAt us i)) j
   unfolding shared
-  shared-adds x ss ts us cell j i item f = go (member ns x j) refl
+  shared-adds x ss ts us cell j i item f = go (member ks x j) refl
     where
       a : Amount
       a = amount item (stateAt ss i) (stateAt ts i) (stateAt us i)
 
-      go : (y : Bool) → member ns x j ≡ y → (if y then share h ns x a j else cell j i item) ≡ cell j i item +ℤ share h ns x a j
+      go : (y : Bool) → member ks x j ≡ y → (if y then share h ks x a j else cell j i item) ≡ cell j i item +ℤ share h ks x a j
       go true e = sym (rw (f e) (+ℤ-idl _))
-      go false e = sym (rw (share-none h ns x a j e) (+ℤ-idr (cell j i item)))
+      go false e = sym (rw (share-none h ks x a j e) (+ℤ-idr (cell j i item)))
 
   -- its members have their shares
-  pub shared-members : (x : InternalSequence) (ss ts us : List Running) (cell : Cells) (j i : ℕ) (item : Item) → member ns x j ≡ true →
-      shared h ns x ss ts us cell j i item ≡ share h ns x (amount item (stateAt ss i) (stateAt ts i) (stateAt us i)) j
+  pub shared-members : (x : Key) (ss ts us : List Running) (cell : Cells) (j i : ℕ) (item : Item) → member ks x j ≡ true →
+      shared h ks x ss ts us cell j i item ≡ share h ks x (amount item (stateAt ss i) (stateAt ts i) (stateAt us i)) j
   unfolding shared
   shared-members x ss ts us cell j i item e = rw e
 
   -- and the others' cells are kept
-  pub shared-keeps : (x : InternalSequence) (ss ts us : List Running) (cell : Cells) (j i : ℕ) (item : Item) → (internalAt ns j .0 ≡ x .0 → ⊥) → shared h ns x ss ts us cell j i item ≡ cell j i item
+  pub shared-keeps : (x : Key) (ss ts us : List Running) (cell : Cells) (j i : ℕ) (item : Item) → member ks x j ≡ false → shared h ks x ss ts us cell j i item ≡ cell j i item
   unfolding shared
-  shared-keeps x ss ts us cell j i item f = rw (number-other (internalAt ns j) x f)
+  shared-keeps x ss ts us cell j i item e = rw e
 
   -- All groups.
 
-  -- a delivery whose number is below x
-  abbrev pub below : ℕ → ℕ → Bool
-  below x j = ltb (internalAt ns j .0) x
+  -- a delivery whose group is still to come
+  abbrev pub awaits : List Key → ℕ → Bool
+  awaits xs j = among xs (keyAt ks j)
 
-  -- where a run stands when all numbers from x up are done
-  pub record Balanced (x : ℕ) (p : Progress) : Type 0 where
+  -- it is no member of a group that comes before
+  pub awaits-other : (x : Key) (xs : List Key) (j : ℕ) → among xs x ≡ false → awaits xs j ≡ true → member ks x j ≡ false
+  awaits-other x xs j once e = go (member ks x j) refl
+    where
+      go : (b : Bool) → member ks x j ≡ b → b ≡ false
+      go false f = refl
+      go true f = true-not-false (sym e ∙ ap (among xs) (key-same (keyAt ks j) x f) ∙ once)
+
+  -- where a run stands when the groups of xs are still to come
+  pub record Balanced (xs : List Key) (p : Progress) : Type 0 where
     pub sound : (i : ℕ) → Sound (stateAt (p .states) i)
     pub plant : (i : ℕ) → stateAt (p .states) i .plant ≡ plantAt h i
-    pub percent : (i : ℕ) → stateAt (p .states) i .percent + percents (below x) (h .directs) i (h .ndirects) ≤ 100
-    pub untouched : (j i : ℕ) (item : Item) → internalAt ns j .0 < x → p .cells j i item ≡ pos 0
+    pub percent : (i : ℕ) → stateAt (p .states) i .percent + percents (awaits xs) (h .directs) i (h .ndirects) ≤ 100
+    pub untouched : (j i : ℕ) (item : Item) → awaits xs j ≡ true → p .cells j i item ≡ pos 0
     pub mwh : (i : ℕ) → sumℤ (λ j. p .cells j i directMwh +ℤ p .cells j i incrementalMwh) (h .ndeliveries) +ℤ pos (stateAt (p .states) i .v) ≡ pos (generation (plantAt h i))
     pub grains : (i : ℕ) → sumℤ (λ j. p .cells j i directCost +ℤ p .cells j i incrementalCost) (h .ndeliveries) +ℤ pos (worth (stateAt (p .states) i)) ≡ pos (generationCost (plantAt h i))
 
-  -- the lines of number x and those below it are those below x + 1
-  pub lines-left : (x i n : ℕ) → percents (member ns (internal x)) (h .directs) i n + percents (below x) (h .directs) i n ≡ percents (below (suc x)) (h .directs) i n
-  lines-left x i n = sumTo-add n _ _ _ (λ q l. one (getD (h .directs) q noDirect))
+  -- the lines of key x and those of the keys after it are those still to come
+  pub lines-left : (x : Key) (xs : List Key) (i n : ℕ) → among xs x ≡ false → percents (member ks x) (h .directs) i n + percents (awaits xs) (h .directs) i n ≡ percents (awaits (x ∷ xs)) (h .directs) i n
+  lines-left x xs i n once = sumTo-add n _ _ _ (λ q l. one (getD (h .directs) q noDirect))
     where
-      put : (a b c : Bool) (line : Direct) → (a ≡ true → (b ≡ false) × (c ≡ true)) → (a ≡ false → c ≡ b) → percentOf a line i + percentOf b line i ≡ percentOf c line i
-      put true b c line f g = rw (f refl .0, f refl .1) (omega arith)
-      put false b c line f g = rw (g refl) (omega arith)
+      put : (a b : Bool) (line : Direct) → (a ≡ true → b ≡ false) → percentOf a line i + percentOf b line i ≡ percentOf (a || b) line i
+      put true b line f = rw (f refl) (omega arith)
+      put false b line f = omega arith
 
-      one : (line : Direct) → percentOf (member ns (internal x) (line .delivery)) line i + percentOf (below x (line .delivery)) line i ≡ percentOf (below (suc x) (line .delivery)) line i
-      one line =
-          let y : ℕ = internalAt ns (line .delivery) .0 in
-          put (eqb y x) (ltb y x) (ltb y (suc x)) line
-          (λ e. let z = eqb-true y x e in (le-ltb y x (omega arith), lt-ltb y (suc x) (omega arith)))
-          (λ e. let z = eqb-false y x e in elim (decLt y x) [
-            | yes l ↦ lt-ltb y (suc x) (omega arith) ∙ sym (lt-ltb y x l)
-            | no l ↦ le-ltb y (suc x) (omega arith) ∙ sym (le-ltb y x (omega arith))
-          ])
+      one : (line : Direct) → percentOf (member ks x (line .delivery)) line i + percentOf (awaits xs (line .delivery)) line i ≡ percentOf (awaits (x ∷ xs) (line .delivery)) line i
+      one line = put (member ks x (line .delivery)) (awaits xs (line .delivery)) line (λ e. ap (among xs) (key-same (keyAt ks (line .delivery)) x e) ∙ once)
 
   -- a group's D lines
-  pub lines-directed : (x : ℕ) (p : Progress) → Balanced (suc x) p → (i : ℕ) → Directed (percents (member ns (internal x)) (h .directs) i (h .ndirects)) (stateAt (p .states) i) (stateAt (afterLines x p) i)
-  lines-directed x p b i = groupLines-directed (member ns (internal x)) (h .directs) (p .states) i (b .sound i) (h .ndirects) (omega (arith, lines-left x i (h .ndirects), b .percent i))
+  pub lines-directed : (x : Key) (xs : List Key) (p : Progress) → among xs x ≡ false → Balanced (x ∷ xs) p → (i : ℕ) → Directed (percents (member ks x) (h .directs) i (h .ndirects)) (stateAt (p .states) i) (stateAt (afterLines x p) i)
+  lines-directed x xs p once b i = groupLines-directed (member ks x) (h .directs) (p .states) i (b .sound i) (h .ndirects) (omega (arith, lines-left x xs i (h .ndirects) once, b .percent i))
 
   -- a group with members
-  pub grouped-balanced : (x : ℕ) (p q : Progress) → Balanced (suc x) p → Grouped x p q → Balanced x q
-  grouped-balanced x p q b g =
+  pub grouped-balanced : (x : Key) (xs : List Key) (p q : Progress) → Turns ks (h .ndeliveries) (x ∷ xs) → Balanced (x ∷ xs) p → Grouped x p q → Balanced xs q
+  grouped-balanced x xs p q t b g =
       rw (g .is)
       (record {
         sound = λ i. moved-sound _ _ (d i .took .sound) (m i);
         plant = λ i. ap (λ (y : Running). y .plant) (m i .is) ∙ d i .took .plant ∙ b .plant i;
-        percent = λ i. let e = ap (λ (y : Running). y .percent) (m i .is) in omega (arith, e, d i .percent, lines-left x i (h .ndirects), b .percent i);
-        untouched = λ j i item y. shared-keeps (internal x) ss ts us (p .cells) j i item (λ z. omega arith) ∙ b .untouched j i item (omega arith);
+        percent = λ i. let e = ap (λ (y : Running). y .percent) (m i .is) in omega (arith, e, d i .percent, lines-left x xs i (h .ndirects) once, b .percent i);
+        untouched = λ j i item y. shared-keeps x ss ts us (p .cells) j i item (awaits-other x xs j once y) ∙ b .untouched j i item (late (member ks x j) (awaits xs j) y);
         mwh = λ i. column i directMwh incrementalMwh (stateAt us i .v) (stateAt ss i .v) _ (group-mwh (stateAt ss i) (stateAt ts i) (stateAt us i) (b .sound i) (d i .took) (m i)) (b .mwh i);
         grains = λ i. column i directCost incrementalCost (worth (stateAt us i)) (worth (stateAt ss i)) _ (group-cost (stateAt ss i) (stateAt ts i) (stateAt us i) (b .sound i) (d i .took) (m i)) (b .grains i);
       })
     where
+      once : among xs x ≡ false
+      once = first-once x xs (t .ordered)
+
+      late : (a b : Bool) → b ≡ true → (a || b) ≡ true
+      late true b e = refl
+      late false b e = e
+
+      first : (a b : Bool) → a ≡ true → (a || b) ≡ true
+      first a b e = rw e
+
       ss : List Running
       ss = p .states
 
@@ -175,8 +170,8 @@ module _ (h : Hour) (ns : List InternalSequence) where
       us : List Running
       us = g .us
 
-      d : (i : ℕ) → Directed (percents (member ns (internal x)) (h .directs) i (h .ndirects)) (stateAt ss i) (stateAt ts i)
-      d = lines-directed x p b
+      d : (i : ℕ) → Directed (percents (member ks x) (h .directs) i (h .ndirects)) (stateAt ss i) (stateAt ts i)
+      d = lines-directed x xs p once b
 
       m : (i : ℕ) → Moved (stateAt ts i) (stateAt us i)
       m i = shift-moved (d i .took .sound) (remainder-moves _ _ _ _ ts us (g .done) .each i)
@@ -184,51 +179,39 @@ module _ (h : Hour) (ns : List InternalSequence) where
       part : (i : ℕ) (item : Item) → Amount
       part i item = amount item (stateAt ss i) (stateAt ts i) (stateAt us i)
 
-      adds : (i : ℕ) (item : Item) (j : ℕ) → j < h .ndeliveries → shared h ns (internal x) ss ts us (p .cells) j i item ≡ p .cells j i item +ℤ share h ns (internal x) (part i item) j
-      adds i item j y = shared-adds (internal x) ss ts us (p .cells) j i item (λ z. b .untouched j i item (omega (arith, eqb-true (internalAt ns j .0) x z)))
+      adds : (i : ℕ) (item : Item) (j : ℕ) → j < h .ndeliveries → shared h ks x ss ts us (p .cells) j i item ≡ p .cells j i item +ℤ share h ks x (part i item) j
+      adds i item j y = shared-adds x ss ts us (p .cells) j i item (λ z. b .untouched j i item (first (member ks x j) (awaits xs j) z))
 
       column : (i : ℕ) (v w : Item) (after before whole : ℕ) →
           (value (part i v) +ℤ value (part i w)) +ℤ pos after ≡ pos before →
           sumℤ (λ j. p .cells j i v +ℤ p .cells j i w) (h .ndeliveries) +ℤ pos before ≡ pos whole →
-          sumℤ (λ j. shared h ns (internal x) ss ts us (p .cells) j i v +ℤ shared h ns (internal x) ss ts us (p .cells) j i w) (h .ndeliveries) +ℤ pos after ≡ pos whole
+          sumℤ (λ j. shared h ks x ss ts us (p .cells) j i v +ℤ shared h ks x ss ts us (p .cells) j i w) (h .ndeliveries) +ℤ pos after ≡ pos whole
       column i v w after before whole y z =
-          sumℤ-carried (h .ndeliveries) (λ j. p .cells j i v) (λ j. p .cells j i w) (share h ns (internal x) (part i v)) (share h ns (internal x) (part i w))
-          (λ j. shared h ns (internal x) ss ts us (p .cells) j i v) (λ j. shared h ns (internal x) ss ts us (p .cells) j i w)
+          sumℤ-carried (h .ndeliveries) (λ j. p .cells j i v) (λ j. p .cells j i w) (share h ks x (part i v)) (share h ks x (part i w))
+          (λ j. shared h ks x ss ts us (p .cells) j i v) (λ j. shared h ks x ss ts us (p .cells) j i w)
           (value (part i v)) (value (part i w)) after before whole (adds i v) (adds i w)
-          (shares-sum h ns (internal x) (part i v) (g .members)) (shares-sum h ns (internal x) (part i w) (g .members)) y z
+          (shares-sum h ks x (part i v) (g .members)) (shares-sum h ks x (part i w) (g .members)) y z
 
-  -- a number that no delivery has
-  pub none-balanced : (x : ℕ) (p : Progress) → Balanced (suc x) p → Balanced x p
-  none-balanced x p b =
+  pub start-balanced : Given h → (xs : List Key) → Balanced xs (opening h)
+  start-balanced g xs =
       record {
-        sound = b .sound;
-        plant = b .plant;
-        percent = λ i. omega (arith, lines-left x i (h .ndirects), b .percent i);
-        untouched = λ j i item y. b .untouched j i item (omega arith);
-        mwh = b .mwh;
-        grains = b .grains;
-      }
-
-  pub start-balanced : Given h → Balanced 1000 started
-  start-balanced g =
-      record {
-        sound = λ i. rw (started-at i) (opened-sound (plantAt h i) (g .starts i));
-        plant = λ i. ap (λ (y : Running). y .plant) (started-at i);
-        percent = λ i. let e = ap (λ (y : Running). y .percent) (started-at i) in omega (arith, e, g .percents i, fewer i);
+        sound = λ i. rw (opening-at i) (opened-sound (plantAt h i) (g .starts i));
+        plant = λ i. ap (λ (y : Running). y .plant) (opening-at i);
+        percent = λ i. let e = ap (λ (y : Running). y .percent) (opening-at i) in omega (arith, e, g .percents i, fewer i);
         untouched = λ j i item y. refl;
-        mwh = λ i. rw (started-at i, sumℤ-zero (h .ndeliveries)) (+ℤ-idl (pos (generation (plantAt h i))));
-        grains = λ i. rw (started-at i, sumℤ-zero (h .ndeliveries), opened-worth (plantAt h i) (g .starts i)) (+ℤ-idl (pos (generationCost (plantAt h i))));
+        mwh = λ i. rw (opening-at i, sumℤ-zero (h .ndeliveries)) (+ℤ-idl (pos (generation (plantAt h i))));
+        grains = λ i. rw (opening-at i, sumℤ-zero (h .ndeliveries), opened-worth (plantAt h i) (g .starts i)) (+ℤ-idl (pos (generationCost (plantAt h i))));
       }
     where
       put : (a : Bool) (line : Direct) (i : ℕ) → percentOf a line i ≤ percentOf true line i
       put true line i = omega arith
       put false line i = omega arith
 
-      fewer : (i : ℕ) → percents (below 1000) (h .directs) i (h .ndirects) ≤ percentsOf h i
+      fewer : (i : ℕ) → percents (awaits xs) (h .directs) i (h .ndirects) ≤ percentsOf h i
       fewer i =
-          sumTo-most (h .ndirects) (λ q. percentOf (below 1000 (getD (h .directs) q noDirect .delivery)) (getD (h .directs) q noDirect) i)
+          sumTo-most (h .ndirects) (λ q. percentOf (awaits xs (getD (h .directs) q noDirect .delivery)) (getD (h .directs) q noDirect) i)
           (λ q. percentOf true (getD (h .directs) q noDirect) i)
-          (λ q l. put (below 1000 (getD (h .directs) q noDirect .delivery)) (getD (h .directs) q noDirect) i)
+          (λ q l. put (awaits xs (getD (h .directs) q noDirect .delivery)) (getD (h .directs) q noDirect) i)
 
-  pub groups-balanced : Given h → (k : ℕ) → k ≤ 1000 → (p : Progress) → groups h ns k ≡ accepted p → Balanced (1000 - k) p
-  groups-balanced g = groups-keep Balanced (start-balanced g) (λ x p z. none-balanced x p) grouped-balanced
+  pub groups-balanced : Given h → (ys xs : List Key) → Turns ks (h .ndeliveries) (ys ++ xs) → (q : Progress) → groups h ks ys (opening h) ≡ accepted q → Balanced xs q
+  groups-balanced g ys xs t q e = groups-keep Balanced grouped-balanced ys xs (opening h) q t (start-balanced g (ys ++ xs)) e

@@ -1,5 +1,6 @@
 pub mod SharesMakeUpTheAmount
 pub mod TakenAndLeft
+pub mod KeysOfAnHour
 pub mod NetIsTotal
 pub mod RefusedExactly
 pub mod NumbersBelow1000
@@ -12,3 +13,4 @@ pub mod AccountsClose
 pub mod EveryGroupIsDone
 pub mod NetMwhIsTheTotal
 pub mod EveryCellFits
+pub mod CellsAreFew

@@ -1,20 +1,20 @@
--- Where every sequence is at most 99, every internal number is below 1,000: so every group is among those gone through.
+-- Where every sequence is at most 99, every internal number is below 1,000.
 use mathlib.Core.Bool.{Bool, true, false, not, _&&_}
 use mathlib.Core.List.{List}
 use mathlib.Core.Option.{Option, none, some}
-use mathlib.Core.Path.{_≡_, ap, _∙_}
+use mathlib.Core.Path.{_≡_, ap}
 use Prim.Native.Nat.{ℕ, zero, suc, _-_, _≤_, _<_, min, max}
 use native.Mathlib.Decide.{decLt}
 use native.Mathlib.Omega.{arith}
-use lib.ListN.{length, getD, take, length-map, length-take, List·getD-eq-default}
-use lib.Seq.{getD-take}
-use Rattle.laws.specs.Sums.{getD-map-there}
-use Rattle.rules.specs.Hour.{orNone, numbers, noNumber, internalAt}
+use lib.ListN.{length, getD, List·getD-eq-default}
+use Rattle.balance.specs.KeysOfAnHour.{keys-at, keys-length}
+use Rattle.rules.specs.Hour.{orNone, keys, noKey, keyAt}
 use Rattle.rules.specs.Sequences.{noDelivery, toPlace, timesTen, joined, match, matches, before, after, ruleA, ruleB, ruleC, ruleD, ruleE, placed, numbered}
 use Rattle.rules.specs.Words.{if_then_else_, _otherwise_}
 use Rattle.rules.specs.declared.Delivery.{Delivery}
 use Rattle.rules.specs.declared.Hour.{Hour}
 use Rattle.rules.specs.declared.InternalSequence.{InternalSequence}
+use Rattle.rules.specs.declared.Key.{Key}
 
 -- an internal number, where there is one, is at most x
 abbrev Most : ℕ → Option InternalSequence → Type 0
@@ -98,24 +98,9 @@ module _ (ts : List Delivery) (small : (j : ℕ) → getD ts j noDelivery .seque
       go true = any (placed ts n (getD ts j noDelivery)) (placed-most n (getD ts j noDelivery))
       go false = omega (arith, small j)
 
-module _ (h : Hour) where
-  abbrev numberOf : Delivery → InternalSequence
-  numberOf t = orNone (numbered (h .deliveries) (h .ndeliveries) t)
-
-  -- the number of delivery j
-  pub numbers-at : (j : ℕ) → j < h .ndeliveries → j < length (h .deliveries) → getD (numbers h) j noNumber ≡ orNone (numbered (h .deliveries) (h .ndeliveries) (getD (h .deliveries) j noDelivery))
-  unfolding numbers
-  numbers-at j a b =
-      getD-map-there numberOf (take (h .ndeliveries) (h .deliveries)) j noDelivery noNumber (omega (arith, length-take (h .ndeliveries) (h .deliveries))) ∙
-      ap numberOf (getD-take (h .ndeliveries) (h .deliveries) j noDelivery a)
-
-  numbers-length : length (numbers h) ≡ min (h .ndeliveries) (length (h .deliveries))
-  unfolding numbers
-  numbers-length = length-map (take (h .ndeliveries) (h .deliveries)) numberOf ∙ length-take (h .ndeliveries) (h .deliveries)
-
-  -- every number of an hour's deliveries
-  pub numbers-below : ((j : ℕ) → getD (h .deliveries) j noDelivery .sequence .0 ≤ 99) → (j : ℕ) → internalAt (numbers h) j .0 < 1000
-  numbers-below small j = elim (decLt j (min (h .ndeliveries) (length (h .deliveries)))) [
-    | yes l ↦ omega (arith, ap (λ (x : InternalSequence). x .0) (numbers-at j (omega arith) (omega arith)), numbered-below (h .deliveries) small (h .ndeliveries) j)
-    | no l ↦ omega (arith, ap (λ (x : InternalSequence). x .0) (List·getD-eq-default (numbers h) noNumber {n = j} (omega (arith, numbers-length))))
-  ]
+-- every number of an hour's deliveries
+pub numbers-below : (h : Hour) → ((j : ℕ) → getD (h .deliveries) j noDelivery .sequence .0 ≤ 99) → (j : ℕ) → keyAt (keys h) j .number .0 < 1000
+numbers-below h small j = elim (decLt j (min (h .ndeliveries) (length (h .deliveries)))) [
+  | yes l ↦ omega (arith, ap (λ (x : Key). x .number .0) (keys-at h j (omega arith) (omega arith)), numbered-below (h .deliveries) small (h .ndeliveries) j)
+  | no l ↦ omega (arith, ap (λ (x : Key). x .number .0) (List·getD-eq-default (keys h) noKey {n = j} (omega (arith, keys-length h))))
+]

@@ -5,26 +5,26 @@ use Prim.Native.Nat.{ℕ, _+_, _-_}
 use native.Mathlib.Omega.{arith}
 use lib.IntN.{pos, _+ℤ_}
 use Rattle.laws.specs.Signed.{value, taken-left}
-use Rattle.merit.specs.ChangedFromB.{Starts, changed-over}
-use Rattle.merit.specs.LevelNeverBelowB.{Sound, paid-most, Took, took-value, Moved, moved-sound}
-use Rattle.rules.specs.Group.{level, changed, opened, directMwh, incrementalMwh, directCost, incrementalCost, amount, openCost}
+use Rattle.merit.specs.ChangedFromB.{Starts, changed-over, changed-zero}
+use Rattle.merit.specs.LevelNeverBelowB.{Sound, charged-most, Took, took-value, Moved, moved-sound}
+use Rattle.rules.specs.Group.{level, changed, charged, opened, directMwh, incrementalMwh, directCost, incrementalCost, amount, openCost}
 use Rattle.rules.specs.Units.{cost, generation, generationCost}
 use Rattle.rules.specs.declared.Plant.{Plant}
 use Rattle.rules.specs.declared.Running.{Running}
 
 abbrev pub worth : Running → ℕ
-worth s = changed s (level s) - s .paid
+worth s = changed s (level s) - charged s
 
 -- "Open energy left on a source costs W(D + v) - W(D)": its worth
 pub open-worth : (s : Running) → Sound s → openCost s ≡ worth s
-open-worth s g = let e : s .d + s .v ≡ level s = omega arith in omega (arith, g .paid, ap (changed s) e)
+open-worth s g = let e : s .d + s .v ≡ level s = omega arith in omega (arith, ap (changed s) e)
 
 -- at first, the cost of the source's generation
 pub opened-worth : (p : Plant) → Starts p → worth (opened p) ≡ generationCost p
 opened-worth p z =
     let e : level (opened p) ≡ generation p = omega arith in
     let f : changed (opened p) (level (opened p)) ≡ cost p (level (opened p)) = changed-over (opened p) z (level (opened p)) (omega arith) in
-    omega (arith, ap (cost p) e)
+    omega (arith, ap (cost p) e, changed-zero (opened p) z)
 
 module _ (s t u : Running) (g : Sound s) (k : Took s t) (m : Moved t u) where
   pub group-mwh : (value (amount directMwh s t u) +ℤ value (amount incrementalMwh s t u)) +ℤ pos (u .v) ≡ pos (s .v)
@@ -33,9 +33,10 @@ module _ (s t u : Running) (g : Sound s) (k : Took s t) (m : Moved t u) where
       taken-left (t .d - s .d) (level t) (level u) (u .v) (s .v) (omega (arith, k .level, k .more))
 
   pub group-cost : (value (amount directCost s t u) +ℤ value (amount incrementalCost s t u)) +ℤ pos (worth u) ≡ pos (worth s)
+  unfolding changed
   group-cost =
-      let e : u .paid ≡ t .paid = ap (λ (x : Running). x .paid) (m .is) in
-      let p = paid-most s g in
-      let q = paid-most u (moved-sound t u (k .sound) m) in
+      let e : charged u ≡ charged t = ap charged (m .is) in
+      let p = charged-most s g in
+      let q = charged-most u (moved-sound t u (k .sound) m) in
       let v = took-value s t g k in
-      taken-left (t .paid - s .paid) (changed t (level t)) (changed u (level u)) (worth u) (worth s) (omega (arith, k .charged))
+      taken-left (charged t - charged s) (changed t (level t)) (changed u (level u)) (worth u) (worth s) (omega (arith, k .charged))

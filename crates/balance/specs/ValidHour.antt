@@ -60,6 +60,7 @@ module _ (h : Hour) (v : valid h ≡ true) where
       record {
         starts = everywhere SourceGiven (λ x. Starts (x .plant)) blankSource noSource (h .sources) (h .nsources) sources-given (λ x g. plant-starts (x .plant) (g .within)) refl missing-starts;
         percents = valid-given h v .percents;
+        long = omega (arith, valid-given h v .deliveries .few, valid-given h v .deliveries .size);
       }
 
   pub valid-small : SmallHour h

@@ -13,7 +13,7 @@ use rules::Plant;
 use rules::Refusal;
 use rules::Running;
 
-// The ladder's steps.
+// The ladder's rungs.
 pub enum Rung {
     Normal,
     Oil,
@@ -113,8 +113,8 @@ pub fn changed_cost(s: Running, m: u32) -> u64
     part(plant_cost(p, b), m, b)
 }
 
-// A step's low; the last step has none.
-fn low_at(p: Plant, x: Rung) -> u32
+// A rung's low; the last step has none.
+pub fn low_at(p: Plant, x: Rung) -> u32
     ensures { λ r. ⌜ r ≡ lowAt x p ⌝ }
 {
     match p {
@@ -220,7 +220,6 @@ fn with_open(s: Running, v: u32) -> Running
         b: s.b,
         based: s.based,
         percent: s.percent,
-        paid: s.paid,
     }
 }
 

@@ -8,6 +8,10 @@ use lib.Dec.{ltb}
 use lib.ListN.{getD}
 use Rattle.rules.specs.Words.{if_then_else_, sumTo}
 
+-- how many lines an engine has room for
+abbrev pub lanes : ℕ
+lanes = 32
+
 abbrev pub at : List ℕ → ℕ → ℕ
 at l i = getD l i 0
 
@@ -25,7 +29,7 @@ pub record Source (one step span inv cap : ℕ) : Type 0 where
 
 -- the first n sources
 pub record Table (one step span inv cap : List ℕ) (n : ℕ) : Type 0 where
-  pub n-small : n ≤ 32
+  pub n-small : n ≤ lanes
   pub source : (i : ℕ) → i < n → Source (at one i) (at step i) (at span i) (at inv i) (at cap i)
 
 -- what the count goes by is small
@@ -34,7 +38,7 @@ pub record Scaled (step span inv : ℕ) : Type 0 where
   pub test : (w : ℕ) → w ≤ span → w * inv / 2 ^ 40 * step ≤ 2 ^ 60
 
 pub record Scales (step span inv : List ℕ) (n : ℕ) : Type 0 where
-  pub n-small : n ≤ 32
+  pub n-small : n ≤ lanes
   pub scaled : (i : ℕ) → i < n → Scaled (at step i) (at span i) (at inv i)
 
 -- w over the step, rounded up

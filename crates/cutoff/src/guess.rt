@@ -1,8 +1,8 @@
 // Where to look for the mark next. Nothing is promised of a guess: a poor one costs a round and no MWh.
 ghost use Prim.Native.Nat.{_≤_};
+ghost use Rattle.cutoff.specs.Lines.{lanes};
+use crate::LANES;
 use crate::Offer;
-use crate::least;
-use crate::less;
 
 // What the search knows: at lo there are more MWh than the total, at hi no more, and `spare` of one merit are next below hi. `next` is a mark to try.
 // The slope is to stop `short` MWh before the total, and where it leads nowhere `many` may be left.
@@ -38,11 +38,11 @@ fn between(lo: u64, hi: u64, part: u64, whole: u64) -> u64 {
     if 131072 < part {
         return lo;
     }
-    let d = less(hi, lo) / 64;
+    let d = numbers::less(hi, lo) / 64;
     if 1099511627776 < d {
         return lo;
     }
-    less(hi, d * (part * 64 / whole) + 1)
+    numbers::less(hi, d * (part * 64 / whole) + 1)
 }
 
 fn mean(sum: u64, count: u64) -> u64 {
@@ -62,8 +62,8 @@ fn by_thirds(lo: u64, middle: u64, hi: u64, total: u64, over: u64) -> u64 {
 }
 
 // Where merits begin and end, and the MWh of all sources.
-fn ends(one: &[u64; 32], span: &[u64; 32], cap: &[u64; 32], n: usize, total: u64) -> Guess
-    requires { ⌜ n ≤ 32 ⌝ }
+fn ends(one: &[u64; LANES], span: &[u64; LANES], cap: &[u64; LANES], n: usize, total: u64) -> Guess
+    requires { ⌜ n ≤ lanes ⌝ }
 {
     let mut lo: u64 = 281474976710657;
     let mut hi: u64 = 0;
@@ -74,12 +74,16 @@ fn ends(one: &[u64; 32], span: &[u64; 32], cap: &[u64; 32], n: usize, total: u64
     while i < n {
         let o = one[i];
         let w = span[i];
-        let end = if w == 0 { 281474976710657 } else { less(o, w) };
+        let end = if w == 0 {
+            281474976710657
+        } else {
+            numbers::less(o, w)
+        };
         lo = if end < lo { end } else { lo };
         hi = if hi < o { o } else { hi };
         over = std::num::wrapping_add_u64(over, cap[i]);
-        middles = std::num::wrapping_add_u64(middles, less(o, w / 2));
-        count = std::num::wrapping_add_u64(count, least(w, 1));
+        middles = std::num::wrapping_add_u64(middles, numbers::less(o, w / 2));
+        count = std::num::wrapping_add_u64(count, numbers::least(w, 1));
         i += 1;
     }
     let short: u64 = if n < 16 { 1 } else { 3 };
@@ -90,21 +94,21 @@ fn ends(one: &[u64; 32], span: &[u64; 32], cap: &[u64; 32], n: usize, total: u64
         held: 0,
         spare: 0,
         next: by_thirds(lo, mean(middles, count), hi, total, over),
-        short: least(short, total / 32 + 1),
+        short: numbers::least(short, total / 32 + 1),
         many: if n < 16 { 8 } else { 32 },
     }
 }
 
 // The slope at the best merit, and as its sum the MWh of sources with that merit alone.
 fn top(
-    one: &[u64; 32],
-    span: &[u64; 32],
-    inv: &[u64; 32],
-    cap: &[u64; 32],
+    one: &[u64; LANES],
+    span: &[u64; LANES],
+    inv: &[u64; LANES],
+    cap: &[u64; LANES],
     n: usize,
     p: u64,
 ) -> Offer
-    requires { ⌜ n ≤ 32 ⌝ }
+    requires { ⌜ n ≤ lanes ⌝ }
 {
     let mut sum: u64 = 0;
     let mut slope: u64 = 0;
@@ -128,14 +132,14 @@ fn top(
 
 // The first guess: by the ends, or for few MWh by the slope at the best merit.
 pub fn first(
-    one: &[u64; 32],
-    span: &[u64; 32],
-    inv: &[u64; 32],
-    cap: &[u64; 32],
+    one: &[u64; LANES],
+    span: &[u64; LANES],
+    inv: &[u64; LANES],
+    cap: &[u64; LANES],
     n: usize,
     total: u64,
 ) -> Guess
-    requires { ⌜ n ≤ 32 ⌝ }
+    requires { ⌜ n ≤ lanes ⌝ }
 {
     let g = ends(one, span, cap, n, total);
     if g.over / 32 <= total {
@@ -156,8 +160,8 @@ pub fn first(
     )
 }
 
-fn flats_at(one: &[u64; 32], span: &[u64; 32], cap: &[u64; 32], n: usize, p: u64) -> Flats
-    requires { ⌜ n ≤ 32 ⌝ }
+fn flats_at(one: &[u64; LANES], span: &[u64; LANES], cap: &[u64; LANES], n: usize, p: u64) -> Flats
+    requires { ⌜ n ≤ lanes ⌝ }
 {
     let mut below: u64 = 0;
     let mut level: u64 = 0;
@@ -189,11 +193,11 @@ fn inside(g: Guess, p: u64) -> bool {
 
 // Whether the rest is left to single steps: a few MWh, after some rounds more, and what is spare.
 pub fn enough(g: Guess, total: u64, round: u64) -> bool {
-    if less(g.hi, g.lo) <= 1 {
+    if numbers::less(g.hi, g.lo) <= 1 {
         return true;
     }
-    let rest = less(less(total, g.held), g.spare);
-    if rest <= std::num::wrapping_add_u64(6, less(round, 3)) {
+    let rest = numbers::less(numbers::less(total, g.held), g.spare);
+    if rest <= std::num::wrapping_add_u64(6, numbers::less(round, 3)) {
         return true;
     }
     if inside(g, g.next) {
@@ -206,7 +210,7 @@ pub fn enough(g: Guess, total: u64, round: u64) -> bool {
 }
 
 fn middle(g: Guess) -> u64 {
-    std::num::wrapping_add_u64(g.lo, less(g.hi, g.lo) / 2)
+    std::num::wrapping_add_u64(g.lo, numbers::less(g.hi, g.lo) / 2)
 }
 
 // A mark, or where a source of one merit begins near it.
@@ -232,15 +236,15 @@ fn within(g: Guess, p: u64) -> u64 {
 
 // The mark to try: that of the guess, if it lies inside; else by the MWh at lo and hi and by halves in turn, and after 14 rounds by halves.
 pub fn mark(
-    one: &[u64; 32],
-    span: &[u64; 32],
-    cap: &[u64; 32],
+    one: &[u64; LANES],
+    span: &[u64; LANES],
+    cap: &[u64; LANES],
     n: usize,
     g: Guess,
     total: u64,
     round: u64,
 ) -> Trial
-    requires { ⌜ n ≤ 32 ⌝ }
+    requires { ⌜ n ≤ lanes ⌝ }
 {
     if 13 < round {
         return Trial {
@@ -254,7 +258,12 @@ pub fn mark(
             spare: 0,
         };
     }
-    let by = between(g.lo, g.hi, less(total, g.held), less(g.over, g.held));
+    let by = between(
+        g.lo,
+        g.hi,
+        numbers::less(total, g.held),
+        numbers::less(g.over, g.held),
+    );
     let p = if round % 2 == 0 { middle(g) } else { by };
     let m = within(g, near(g, flats_at(one, span, cap, n, p), p));
     let f = flats_at(one, span, cap, n, m);
@@ -277,11 +286,11 @@ fn way(need: u64, slope: u64) -> u64 {
 
 // What is known after a mark held no more than the total, and after it held more. The next mark is by the slope.
 pub fn lower(g: Guess, t: Trial, e: Offer, total: u64) -> Guess {
-    let need = less(
-        less(total, e.sum),
+    let need = numbers::less(
+        numbers::less(total, e.sum),
         std::num::wrapping_add_u64(t.spare, g.short),
     );
-    let next = less(t.mark, std::num::wrapping_add_u64(way(need, e.slope), 1));
+    let next = numbers::less(t.mark, std::num::wrapping_add_u64(way(need, e.slope), 1));
     Guess {
         lo: g.lo,
         over: g.over,
@@ -295,7 +304,7 @@ pub fn lower(g: Guess, t: Trial, e: Offer, total: u64) -> Guess {
 }
 
 pub fn upper(g: Guess, t: Trial, e: Offer, total: u64) -> Guess {
-    let need = std::num::wrapping_add_u64(less(e.sum, total), g.short);
+    let need = std::num::wrapping_add_u64(numbers::less(e.sum, total), g.short);
     let next = std::num::wrapping_add_u64(t.mark, way(need, e.slope));
     Guess {
         lo: t.mark,

@@ -1,11 +1,13 @@
 // The search for a mark: a merit such that no more MWh than the total have it or a better one, and few are then left to take.
 // Only the stock at the mark and the number of rounds are proved; `guess` says where to look. Internal: `dispatch` takes what is left.
 ghost use mathlib.Core.Path.{_≡_};
-ghost use Prim.Native.Nat.{_-_, min};
 ghost use Rattle.rules.specs.Words.{sumTo};
 ghost use Rattle.cutoff.specs.Lines.{Scaled, Scales, Table, Marked, stock, stockAt};
 
 mod guess;
+
+// How many lines of merit an engine has room for: one for each source today.
+pub const LANES: usize = 32;
 
 // The MWh at and above a mark, and how fast they grow below it.
 pub struct Offer {
@@ -19,41 +21,29 @@ pub struct Mark {
     pub sum: u64,
 }
 
-pub fn less(a: u64, b: u64) -> u64
-    ensures { λ r. ⌜ r ≡ a - b ⌝ }
-{
-    if a < b { 0 } else { a - b }
-}
-
-pub fn least(a: u64, b: u64) -> u64
-    ensures { λ r. ⌜ r ≡ min a b ⌝ }
-{
-    if b < a { b } else { a }
-}
-
 // How many of a source's MWh have a merit of at least p: a product for a division, and one test.
 pub fn count(one: u64, step: u64, span: u64, inv: u64, p: u64) -> u64
     requires { ⌜ Scaled step span inv ⌝ }
     ensures { λ q. ⌜ q ≡ stock one step span inv p ⌝ }
 {
-    let w = least(span, less(one, p));
+    let w = numbers::least(span, numbers::less(one, p));
     let q = w * inv / 1099511627776;
     if q * step < w { q + 1 } else { q }
 }
 
 // A source's part of the slope: its reciprocal where the mark lies in its span.
 fn tilt(one: u64, step: u64, span: u64, inv: u64, p: u64) -> u64 {
-    let a = if less(one, p) < span { inv } else { 0 };
+    let a = if numbers::less(one, p) < span { inv } else { 0 };
     let b = if p <= one { a } else { 0 };
     if 0 < step { b } else { 0 }
 }
 
 // What all sources have at and above p.
 fn supply(
-    one: &[u64; 32],
-    step: &[u64; 32],
-    span: &[u64; 32],
-    inv: &[u64; 32],
+    one: &[u64; LANES],
+    step: &[u64; LANES],
+    span: &[u64; LANES],
+    inv: &[u64; LANES],
     n: usize,
     p: u64,
 ) -> Offer
@@ -80,11 +70,11 @@ fn supply(
 
 // A mark with no more than the total at and above it, and nearly that: within 64 rounds, from the fifteenth on by halves.
 pub fn find_mark(
-    one: &[u64; 32],
-    step: &[u64; 32],
-    span: &[u64; 32],
-    inv: &[u64; 32],
-    cap: &[u64; 32],
+    one: &[u64; LANES],
+    step: &[u64; LANES],
+    span: &[u64; LANES],
+    inv: &[u64; LANES],
+    cap: &[u64; LANES],
     n: usize,
     total: u64,
 ) -> Mark

@@ -13,16 +13,16 @@ use lib.Seq.{getD-set-same, getD-set-other}
 use Rattle.dispatch.proofs.Taking.{taken-more}
 use Rattle.dispatch.specs.Taken.{First, merit, Next, Left, Small, Highest, Choice, Block, Passed, Turn, Going, Level, Turns}
 use Rattle.laws.specs.Sums.{below-suc}
-use Rattle.cutoff.specs.Lines.{at}
+use Rattle.cutoff.specs.Lines.{lanes, at}
 use Rattle.merit.specs.Settled.{more, Beats}
 
 -- The merits of what is left, filled from the front, and changed with what is taken.
 
 module _ {one step cap t : List ℕ} where
-  pub left-none : (left : List ℕ) → length left ≡ 32 → Left one step cap t 0 left
+  pub left-none : (left : List ℕ) → length left ≡ lanes → Left one step cap t 0 left
   left-none left e = record { long = e; next = λ i l. absurd (omega arith) }
 
-  pub left-more : {left : List ℕ} {i m : ℕ} → Left one step cap t i left → i < 32 → Next (at one i) (at step i) (at cap i) (at t i) m → Left one step cap t (i + 1) (set left i m)
+  pub left-more : {left : List ℕ} {i m : ℕ} → Left one step cap t i left → i < lanes → Next (at one i) (at step i) (at cap i) (at t i) m → Left one step cap t (i + 1) (set left i m)
   left-more {left} {i} {m} s l x = record {
     long = length-set left i m ∙ s .long;
     next = rw (add-one i) (below-suc (λ j. Next (at one j) (at step j) (at cap j) (at t j) (at (set left i m) j)) i
@@ -31,7 +31,7 @@ module _ {one step cap t : List ℕ} where
   }
 
   -- with what is taken of it
-  pub left-grown : {left : List ℕ} {i k m : ℕ} → Left one step cap t i left → length t ≡ 32 → i < 32 → Next (at one i) (at step i) (at cap i) k m → Left one step cap (set t i k) (i + 1) (set left i m)
+  pub left-grown : {left : List ℕ} {i k m : ℕ} → Left one step cap t i left → length t ≡ lanes → i < lanes → Next (at one i) (at step i) (at cap i) k m → Left one step cap (set t i k) (i + 1) (set left i m)
   left-grown {left} {i} {k} {m} s long l x = record {
     long = length-set left i m ∙ s .long;
     next = rw (add-one i) (below-suc (λ j. Next (at one j) (at step j) (at cap j) (at (set t i k) j) (at (set left i m) j)) i
@@ -45,7 +45,7 @@ module _ {one step cap t : List ℕ} where
   pub left-small : {left : List ℕ} {n : ℕ} → Left one step cap t n left → Small left n
   left-small s = record { small = λ i l. s .next i l .small }
 
-  left-set : {left : List ℕ} {n i k m : ℕ} → Left one step cap t n left → n ≤ 32 → length t ≡ 32 → i < n → Next (at one i) (at step i) (at cap i) k m → Left one step cap (set t i k) n (set left i m)
+  left-set : {left : List ℕ} {n i k m : ℕ} → Left one step cap t n left → n ≤ lanes → length t ≡ lanes → i < n → Next (at one i) (at step i) (at cap i) k m → Left one step cap (set t i k) n (set left i m)
   left-set {left} {n} {i} {k} {m} s small long l x = record {
     long = length-set left i m ∙ s .long;
     next = λ j lj. elim (ℕ-discrete j i) [
@@ -98,7 +98,7 @@ next-worse {step = step} {cap = cap} k g some b l a c = elim (decLt (k + g) cap)
 ]
 
 module _ {up : Bool} {one step cap : List ℕ} {n total : ℕ} where
-  pub going-more : {sum rest i g m : ℕ} {t left : List ℕ} → n ≤ 32 → Going up one step cap n total sum t left → i < n → Choice up one step cap t n i → sum + g ≤ total →
+  pub going-more : {sum rest i g m : ℕ} {t left : List ℕ} → n ≤ lanes → Going up one step cap n total sum t left → i < n → Choice up one step cap t n i → sum + g ≤ total →
       Block (at step i) (at cap i) (at t i) rest g → Next (at one i) (at step i) (at cap i) (at t i + g) m → Going up one step cap n total (sum + g) (set t i (at t i + g)) (set left i m)
   going-more small s l d h b x = record {
     within = h;
@@ -107,7 +107,7 @@ module _ {up : Bool} {one step cap : List ℕ} {n total : ℕ} where
   }
 
   -- the highest taken from, nothing is above what it was
-  pub going-level : {sum rest i g m : ℕ} {t left : List ℕ} → n ≤ 32 → Going up one step cap n total sum t left → i < n → Highest up left n i → sum + g ≤ total →
+  pub going-level : {sum rest i g m : ℕ} {t left : List ℕ} → n ≤ lanes → Going up one step cap n total sum t left → i < n → Highest up left n i → sum + g ≤ total →
       Block (at step i) (at cap i) (at t i) rest g → Next (at one i) (at step i) (at cap i) (at t i + g) m → Level up one step cap n (at left i) total (sum + g) (set t i (at t i + g)) (set left i m)
   going-level {i = i} {m = m} {left = left} small s l d h b x = record {
     going = going-more small s l (highest-choice (s .left) d) h b x;
@@ -166,7 +166,7 @@ module _ {up : Bool} {one step cap : List ℕ} {n m total : ℕ} where
   pub turns-choice : {sum i a : ℕ} {t left : List ℕ} → Turns up one step cap n m total sum i t left → sum < total → Turn up n i a → at left a ≡ m → Choice up one step cap t n a
   turns-choice s l u e = highest-choice (s .level .going .left) (turns-highest s l u e)
 
-  pub turns-take : {sum i a g x : ℕ} {t left : List ℕ} → n ≤ 32 → Turns up one step cap n m total sum i t left → sum < total → Turn up n i a → at left a ≡ m →
+  pub turns-take : {sum i a g x : ℕ} {t left : List ℕ} → n ≤ lanes → Turns up one step cap n m total sum i t left → sum < total → Turn up n i a → at left a ≡ m →
       Block (at step a) (at cap a) (at t a) (total - sum) g → Next (at one a) (at step a) (at cap a) (at t a + g) x →
       Turns up one step cap n m total (sum + g) (i + 1) (set t a (at t a + g)) (set left a x)
   turns-take {sum} {i} {a} {g} {x} {t} {left} small s l u e b c = record {

@@ -12,7 +12,7 @@ use Rattle.dispatch.proofs.Taking.{zeros}
 use Rattle.dispatch.specs.Rivals.{Bar, Places, Rivals, Gathered, Spread}
 use Rattle.dispatch.specs.Taken.{Next}
 use Rattle.laws.specs.Sums.{below-suc, sumTo-but, sumTo-more, sumTo-none, sumTo-zero}
-use Rattle.cutoff.specs.Lines.{at, Falls}
+use Rattle.cutoff.specs.Lines.{lanes, at, Falls}
 use Rattle.rules.specs.Words.{sumTo}
 
 module _ (one step cap : List ℕ) (total : ℕ) where
@@ -36,7 +36,7 @@ module _ (one step cap : List ℕ) (total : ℕ) where
   bar-all n i bar l m s = let e : i ≡ n = omega arith in rw e at s
 
 module _ (bar : ℕ) (one : List ℕ) where
-  pub rivals-none : (places : List ℕ) → length places ≡ 32 → Rivals bar one 0 places 0
+  pub rivals-none : (places : List ℕ) → length places ≡ lanes → Rivals bar one 0 places 0
   rivals-none places e = record {
     long = e;
     placed = record { few = omega arith; below = λ k l. absurd (omega arith); rising = λ k l a b. absurd (omega arith) };
@@ -63,7 +63,7 @@ module _ (bar : ℕ) (one : List ℕ) where
       ];
     }
 
-    pub rivals-take : i < 32 → bar ≤ at one i → Rivals bar one (i + 1) (set places m i) (m + 1)
+    pub rivals-take : i < lanes → bar ≤ at one i → Rivals bar one (i + 1) (set places m i) (m + 1)
     rivals-take small h = record {
       long = length-set places m i ∙ s .long;
       placed = record {
@@ -91,10 +91,10 @@ pub places-wider : {n w m : ℕ} {places : List ℕ} → n ≤ w → Places n pl
 places-wider h s = record { few = omega (arith, s .few); below = λ k l. omega (arith, s .below k l); rising = s .rising }
 
 module _ (all places : List ℕ) where
-  pub gathered-none : (few : List ℕ) → length few ≡ 32 → Gathered all places 0 few
+  pub gathered-none : (few : List ℕ) → length few ≡ lanes → Gathered all places 0 few
   gathered-none few e = record { long = e; same = λ k l. absurd (omega arith) }
 
-  pub gathered-more : (k : ℕ) (few : List ℕ) → k < 32 → Gathered all places k few → Gathered all places (k + 1) (set few k (at all (at places k)))
+  pub gathered-more : (k : ℕ) (few : List ℕ) → k < lanes → Gathered all places k few → Gathered all places (k + 1) (set few k (at all (at places k)))
   gathered-more k few l s = record {
     long = length-set few k _ ∙ s .long;
     same = rw (add-one k) (below-suc (λ j. at (set few k (at all (at places k))) j ≡ at all (at places j)) k
@@ -106,15 +106,15 @@ module _ (all places : List ℕ) where
   gathered-all m k few l h s = let e : k ≡ m = omega arith in rw e at s
 
 module _ (few places : List ℕ) where
-  pub spread-none : Spread few places 0 (replicate 32 0)
+  pub spread-none : Spread few places 0 (replicate lanes 0)
   spread-none = record {
     long = refl;
     same = λ k l. absurd (omega arith);
     others = λ i h. zeros i;
-    adds = λ n h. sumTo-zero n (at (replicate 32 0)) (λ i l. zeros i) ∙ sumTo-none (at few);
+    adds = λ n h. sumTo-zero n (at (replicate lanes 0)) (λ i l. zeros i) ∙ sumTo-none (at few);
   }
 
-  pub spread-more : (m k : ℕ) (all : List ℕ) → Places 32 places m → k < m → Spread few places k all → Spread few places (k + 1) (set all (at places k) (at few k))
+  pub spread-more : (m k : ℕ) (all : List ℕ) → Places lanes places m → k < m → Spread few places k all → Spread few places (k + 1) (set all (at places k) (at few k))
   spread-more m k all p l s = record {
     long = length-set all (at places k) (at few k) ∙ s .long;
     same = rw (add-one k) (below-suc (λ j. at (set all (at places k) (at few k)) (at places j) ≡ at few j) k

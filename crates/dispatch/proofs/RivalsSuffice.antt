@@ -13,7 +13,7 @@ use Rattle.dispatch.proofs.Taking.{zeros}
 use Rattle.dispatch.specs.Rivals.{Alone, Rivals, Gathered, Spread}
 use Rattle.dispatch.specs.Taken.{First, merit, Sources, Taken}
 use Rattle.laws.specs.Sums.{sumTo-but, sumTo-part, sumTo-zero}
-use Rattle.cutoff.specs.Lines.{at}
+use Rattle.cutoff.specs.Lines.{lanes, at}
 use Rattle.merit.specs.Settled.{more, Beats}
 use Rattle.rules.specs.Words as Words
 use Rattle.rules.specs.Words.{sumTo}
@@ -138,20 +138,20 @@ module _ {one step cap places : List ℕ} {n total bar : ℕ} (sources : Sources
         absurd (ne (sym (p .2) ∙ ap (at places) e)))
   ]
 
-  here : at (set (replicate 32 0) (at places 0) total) (at places 0) ≡ total
-  here = getD-set-same (replicate 32 0) (at places 0) total 0 (omega (arith, alone .in-range, sources .n-small))
+  here : at (set (replicate lanes 0) (at places 0) total) (at places 0) ≡ total
+  here = getD-set-same (replicate lanes 0) (at places 0) total 0 (omega (arith, alone .in-range, sources .n-small))
 
-  kept : (j : ℕ) → j ≢ at places 0 → at (set (replicate 32 0) (at places 0) total) j ≡ 0
-  kept j ne = getD-set-other (replicate 32 0) (at places 0) j total 0 ne ∙ zeros j
+  kept : (j : ℕ) → j ≢ at places 0 → at (set (replicate lanes 0) (at places 0) total) j ≡ 0
+  kept j ne = getD-set-other (replicate lanes 0) (at places 0) j total 0 ne ∙ zeros j
 
-  pub alone-taken : {up : Bool} → Taken up one step cap n total (set (replicate 32 0) (at places 0) total)
+  pub alone-taken : {up : Bool} → Taken up one step cap n total (set (replicate lanes 0) (at places 0) total)
   alone-taken = record {
-    long = length-set (replicate 32 0) (at places 0) total;
+    long = length-set (replicate lanes 0) (at places 0) total;
     beyond = λ j l. kept j (λ e. omega (arith, alone .in-range));
     adds = omega (
       arith,
-      sumTo-but n (at (replicate 32 0)) (at (set (replicate 32 0) (at places 0) total)) (at places 0) (alone .in-range) (λ j l ne. kept j ne ∙ sym (zeros j)),
-      sumTo-zero n (at (replicate 32 0)) (λ j l. zeros j),
+      sumTo-but n (at (replicate lanes 0)) (at (set (replicate lanes 0) (at places 0) total)) (at places 0) (alone .in-range) (λ j l ne. kept j ne ∙ sym (zeros j)),
+      sumTo-zero n (at (replicate lanes 0)) (λ j l. zeros j),
       zeros (at places 0),
       here,
     );
@@ -163,7 +163,7 @@ module _ {one step cap places : List ℕ} {n total bar : ℕ} (sources : Sources
       order = λ i j k l li lj ne kt tl lc. elim (ℕ-discrete i (at places 0)) [
         | no d ↦ absurd (omega (arith, kept i d))
         | yes e ↦ (
-            let kl : k ≤ total - 1 = omega (arith, here, ap (at (set (replicate 32 0) (at places 0) total)) e) in
+            let kl : k ≤ total - 1 = omega (arith, here, ap (at (set (replicate lanes 0) (at places 0) total)) e) in
             let top : bar - 1 ≤ merit one step i k = rw e (omega (arith, alone .last, mul-le-mul-left (at step (at places 0)) kl)) in
             inl (omega (arith, top, others-below j lj (λ d. ne (e ∙ sym d)), sources .falls j lj .height l lc)))
       ];

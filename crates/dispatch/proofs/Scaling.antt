@@ -7,13 +7,13 @@ use native.Mathlib.Omega.{arith}
 use lib.ListN.{length, set}
 use lib.Seq.{getD-set-same, getD-set-other}
 use Rattle.laws.specs.Sums.{below-suc}
-use Rattle.cutoff.specs.Lines.{at, Source, Table}
+use Rattle.cutoff.specs.Lines.{lanes, at, Source, Table}
 
 module _ {one step cap : List ℕ} where
   pub table-none : {span inv : List ℕ} → Table one step span inv cap 0
   table-none = record { n-small = omega arith; source = λ i l. absurd (omega arith) }
 
-  pub table-more : {span inv : List ℕ} {i w v : ℕ} → length span ≡ 32 → length inv ≡ 32 → i < 32 → Table one step span inv cap i → Source (at one i) (at step i) w v (at cap i)
+  pub table-more : {span inv : List ℕ} {i w v : ℕ} → length span ≡ lanes → length inv ≡ lanes → i < lanes → Table one step span inv cap i → Source (at one i) (at step i) w v (at cap i)
       → Table one step (set span i w) (set inv i v) cap (i + 1)
   table-more {span} {inv} {i} {w} {v} a b l t s = record {
     n-small = omega arith;

@@ -12,21 +12,21 @@ use lib.ListN.{length, set, replicate, length-set, getD-replicate, List·getD-eq
 use lib.Seq.{getD-set-same, getD-set-other}
 use Rattle.dispatch.specs.Taken.{First, first-strict, merit, merits-fall, Taken, Choice, Block, Above}
 use Rattle.laws.specs.Sums.{below-suc, sumTo-most, sumTo-same, sumTo-zero, sumTo-but}
-use Rattle.cutoff.specs.Lines.{at, Table, Marked, stockAt}
+use Rattle.cutoff.specs.Lines.{lanes, at, Table, Marked, stockAt}
 use Rattle.cutoff.specs.Tally.{stock-counted}
 use Rattle.merit.specs.Settled.{more, more-strict, settled-block}
 use Rattle.rules.specs.Words.{sumTo}
 
 -- zeros
-pub zeros : (i : ℕ) → at (replicate 32 0) i ≡ 0
-zeros i = elim (decLt i 32) [ yes l ↦ getD-replicate 32 i 0 0 l | no l ↦ List·getD-eq-default (replicate 32 0) 0 {n = i} (omega arith) ]
+pub zeros : (i : ℕ) → at (replicate lanes 0) i ≡ 0
+zeros i = elim (decLt i lanes) [ yes l ↦ getD-replicate lanes i 0 0 l | no l ↦ List·getD-eq-default (replicate lanes 0) 0 {n = i} (omega arith) ]
 
 module _ (up : Bool) (one step cap : List ℕ) (n : ℕ) where
-  pub taken-none : Taken up one step cap n 0 (replicate 32 0)
+  pub taken-none : Taken up one step cap n 0 (replicate lanes 0)
   taken-none = record {
     long = refl;
     beyond = λ i l. zeros i;
-    adds = sumTo-zero n (at (replicate 32 0)) (λ i l. zeros i);
+    adds = sumTo-zero n (at (replicate lanes 0)) (λ i l. zeros i);
     settled = record { fits = λ i l. omega (arith, zeros i); order = λ i j k l a b ne x y z. absurd (omega (arith, zeros i)) };
   }
 
@@ -41,7 +41,7 @@ module _ (up : Bool) (one step cap : List ℕ) (n : ℕ) where
     | no m ↦ absurd (omega (arith, sumTo-most n (at cap) (at t) (d .none (omega (arith, d .within))), a .adds))
   ]
 
-  pub taken-more : (x rest i g : ℕ) (t : List ℕ) → n ≤ 32 → Taken up one step cap n x t → i < n → Choice up one step cap t n i → Block (at step i) (at cap i) (at t i) rest g
+  pub taken-more : (x rest i g : ℕ) (t : List ℕ) → n ≤ lanes → Taken up one step cap n x t → i < n → Choice up one step cap t n i → Block (at step i) (at cap i) (at t i) rest g
       → Taken up one step cap n (x + g) (set t i (at t i + g))
   taken-more x rest i g t small a m d bl = record {
     long = length-set t i (at t i + g) ∙ a .long;
@@ -68,7 +68,7 @@ module _ (up : Bool) (one step cap : List ℕ) (n : ℕ) where
 
 module _ (up : Bool) (one step span inv cap : List ℕ) (n : ℕ) where
   -- all above a mark
-  pub taken-above : (total mark x : ℕ) (t : List ℕ) → Table one step span inv cap n → Marked one step span inv n total mark x → Above one step span inv n mark (replicate 32 0) t → Taken up one step cap n x t
+  pub taken-above : (total mark x : ℕ) (t : List ℕ) → Table one step span inv cap n → Marked one step span inv n total mark x → Above one step span inv n mark (replicate lanes 0) t → Taken up one step cap n x t
   taken-above total mark x t tab m a = record {
     long = a .long;
     beyond = λ i l. a .beyond i l ∙ zeros i;
@@ -90,7 +90,7 @@ module _ (one step span inv : List ℕ) (mark : ℕ) where
   pub above-none : (t : List ℕ) → Above one step span inv 0 mark t t
   above-none t = record { long = refl; inside = λ i l. absurd (omega arith); beyond = λ i l. refl }
 
-  pub above-more : (i q : ℕ) (t u : List ℕ) → length t ≡ 32 → i < 32 → Above one step span inv i mark t u → q ≡ stockAt one step span inv mark i → Above one step span inv (i + 1) mark t (set u i q)
+  pub above-more : (i q : ℕ) (t u : List ℕ) → length t ≡ lanes → i < lanes → Above one step span inv i mark t u → q ≡ stockAt one step span inv mark i → Above one step span inv (i + 1) mark t (set u i q)
   above-more i q t u long l a e = record {
     long = length-set u i q ∙ a .long;
     inside = rw (add-one i) (below-suc (λ j. at (set u i q) j ≡ stockAt one step span inv mark j) i

@@ -4,7 +4,7 @@ use mathlib.Core.Logic.{_≢_}
 use mathlib.Core.Path.{_≡_}
 use Prim.Native.Nat.{ℕ, _+_, _*_, _-_, _≤_, _<_}
 use lib.ListN.{length}
-use Rattle.cutoff.specs.Lines.{at}
+use Rattle.cutoff.specs.Lines.{lanes, at}
 use Rattle.rules.specs.Words.{sumTo}
 
 -- source i has room for the total, and the bar is one more than the merit of the total's last MWh
@@ -24,19 +24,19 @@ pub record Places (n : ℕ) (places : List ℕ) (m : ℕ) : Type 0 where
 
 -- and they are those of the first n sources that reach the bar
 pub record Rivals (bar : ℕ) (one : List ℕ) (n : ℕ) (places : List ℕ) (m : ℕ) : Type 0 where
-  pub long : length places ≡ 32
+  pub long : length places ≡ lanes
   pub placed : Places n places m
   pub reach : (k : ℕ) → k < m → bar ≤ at one (at places k)
   pub every : (i : ℕ) → i < n → bar ≤ at one i → (k : ℕ) × (k < m) × (at places k ≡ i)
 
 -- what stands at the places
 pub record Gathered (all places : List ℕ) (m : ℕ) (few : List ℕ) : Type 0 where
-  pub long : length few ≡ 32
+  pub long : length few ≡ lanes
   pub same : (k : ℕ) → k < m → at few k ≡ at all (at places k)
 
 -- and back, with 0 at every other
 pub record Spread (few places : List ℕ) (m : ℕ) (all : List ℕ) : Type 0 where
-  pub long : length all ≡ 32
+  pub long : length all ≡ lanes
   pub same : (k : ℕ) → k < m → at all (at places k) ≡ at few k
   pub others : (i : ℕ) → ((k : ℕ) → k < m → at places k ≢ i) → at all i ≡ 0
   pub adds : (n : ℕ) → ((k : ℕ) → k < m → at places k < n) → sumTo (at all) n ≡ sumTo (at few) m

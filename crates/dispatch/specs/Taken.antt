@@ -9,7 +9,7 @@ use native.Mathlib.Nat.{mul-le-mul-left}
 use native.Mathlib.Omega.{arith}
 use lib.ListN.{length}
 use lib.Seq.{ext-getD}
-use Rattle.cutoff.specs.Lines.{at, Falls, Table, stockAt}
+use Rattle.cutoff.specs.Lines.{lanes, at, Falls, Table, stockAt}
 use Rattle.merit.specs.Best.{Best}
 use Rattle.merit.specs.Settled.{Strict, less, more, less-strict, more-strict, Beats, BestUnit, Plain, Falling, Settled, settled-one, settled-plain}
 use Rattle.rules.specs.Words.{sumTo}
@@ -29,12 +29,12 @@ merit one step i k = at one i - (at step i * k + 1)
 
 -- the lines of the first n sources
 pub record Sources (one step cap : List ℕ) (n : ℕ) : Type 0 where
-  pub n-small : n ≤ 32
+  pub n-small : n ≤ lanes
   pub falls : (i : ℕ) → i < n → Falls (at one i) (at step i) (at cap i)
 
 -- t MWh of each source are taken, the total in all and each before any that is left
 pub record Taken (up : Bool) (one step cap : List ℕ) (n total : ℕ) (t : List ℕ) : Type 0 where
-  pub long : length t ≡ 32
+  pub long : length t ≡ lanes
   pub beyond : (i : ℕ) → n ≤ i → at t i ≡ 0
   pub adds : sumTo (at t) n ≡ total
   pub settled : Settled more (First up) n (at cap) (merit one step) (at t)
@@ -47,7 +47,7 @@ pub record Next (one step cap k m : ℕ) : Type 0 where
 
 -- the same of the next MWh of each of the first n sources
 pub record Left (one step cap t : List ℕ) (n : ℕ) (left : List ℕ) : Type 0 where
-  pub long : length left ≡ 32
+  pub long : length left ≡ lanes
   pub next : (i : ℕ) → i < n → Next (at one i) (at step i) (at cap i) (at t i) (at left i)
 
 pub record Small (left : List ℕ) (n : ℕ) : Type 0 where

@@ -10,7 +10,7 @@ use lib.Seq.{getD-set-same, getD-set-other}
 use Rattle.dispatch.specs.LinesOfPrices.{Lined}
 use Rattle.dispatch.specs.Taken.{merit, Sources, Taken}
 use Rattle.laws.specs.Sums.{below-suc}
-use Rattle.cutoff.specs.Lines.{at}
+use Rattle.cutoff.specs.Lines.{lanes, at}
 use Rattle.merit.specs.LevelNeverBelowB.{Sound, stateAt}
 use Rattle.merit.specs.PlainIsSettled.{priceDown, priceUp, unload-whole, credit-whole}
 use Rattle.merit.specs.PricesRise.{price}
@@ -21,16 +21,16 @@ use Rattle.rules.specs.declared.Running.{Running}
 
 -- the three lists hold the lines of the first n running sources, each with its room
 pub record LinesOf (up : Bool) (roomOf : Running → ℕ) (ss : List Running) (one step cap : List ℕ) (n : ℕ) : Type 0 where
-  pub long-one : length one ≡ 32
-  pub long-step : length step ≡ 32
-  pub long-cap : length cap ≡ 32
+  pub long-one : length one ≡ lanes
+  pub long-step : length step ≡ lanes
+  pub long-cap : length cap ≡ lanes
   pub lined : (i : ℕ) → i < n → Lined up (price (stateAt ss i .plant)) (level (stateAt ss i)) (at one i) (at step i) (at cap i)
   pub rooms : (i : ℕ) → i < n → at cap i ≡ roomOf (stateAt ss i)
 
 module _ {up : Bool} {roomOf : Running → ℕ} {ss : List Running} where
   module _ {one step cap : List ℕ} {n : ℕ} (s : LinesOf up roomOf ss one step cap n) where
     -- one source more
-    pub lines-more : {o d x : ℕ} → n < 32 → Lined up (price (stateAt ss n .plant)) (level (stateAt ss n)) o d x → x ≡ roomOf (stateAt ss n) → LinesOf up roomOf ss (set one n o) (set step n d) (set cap n x) (n + 1)
+    pub lines-more : {o d x : ℕ} → n < lanes → Lined up (price (stateAt ss n .plant)) (level (stateAt ss n)) o d x → x ≡ roomOf (stateAt ss n) → LinesOf up roomOf ss (set one n o) (set step n d) (set cap n x) (n + 1)
     lines-more {o} {d} {x} l new here = record {
       long-one = length-set one n o ∙ s .long-one;
       long-step = length-set step n d ∙ s .long-step;
@@ -41,13 +41,13 @@ module _ {up : Bool} {roomOf : Running → ℕ} {ss : List Running} where
       rooms = rw (add-one n) (below-suc (λ i. at (set cap n x) i ≡ roomOf (stateAt ss i)) n (λ i m. kept cap x i m ∙ s .rooms i m) (put cap x (s .long-cap) ∙ here));
     }
       where
-        put : (xs : List ℕ) (y : ℕ) → length xs ≡ 32 → at (set xs n y) n ≡ y
+        put : (xs : List ℕ) (y : ℕ) → length xs ≡ lanes → at (set xs n y) n ≡ y
         put xs y e = getD-set-same xs n y 0 (omega arith)
 
         kept : (xs : List ℕ) (y i : ℕ) → i < n → at (set xs n y) i ≡ at xs i
         kept xs y i m = getD-set-other xs n i y 0 (λ e. omega arith)
 
-    pub lines-sources : n ≤ 32 → Sources one step cap n
+    pub lines-sources : n ≤ lanes → Sources one step cap n
     lines-sources h = record { n-small = h; falls = λ i l. s .lined i l .falls }
 
 -- the same room in other words

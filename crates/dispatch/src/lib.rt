@@ -1,12 +1,13 @@
 // Two engines with one promise, for unloading (up is false) and credits (up is true): the total is taken of sources with room, the best MWh first.
 // A source enters as a falling line of merit, in three arrays. `plain` takes one MWh at a time; `price` leaves out sources that cannot compete, finds
 // a mark, takes all above it at once, and the rest by blocks. The definitions are in specs/ and in `marks`. Internal: they know no hour, and the caller gives lines and room.
+use cutoff::LANES;
 ghost use mathlib.Core.Bool.{true, false};
 ghost use mathlib.Core.Path.{_≡_};
 ghost use Prim.Native.Nat.{_+_, _*_, _≤_, _<_, _^_};
 ghost use lib.ListN.{length, replicate};
 ghost use Rattle.rules.specs.Words.{sumTo};
-ghost use Rattle.cutoff.specs.Lines.{at, Falls, Source, Table, Scales};
+ghost use Rattle.cutoff.specs.Lines.{lanes, at, Falls, Source, Table, Scales};
 ghost use Rattle.dispatch.specs.LinesOfPrices.{Numbers, Lined, linePrice};
 ghost use Rattle.dispatch.specs.Taken.{Sources, Taken, Next, Left, Small, Highest, Turn, Turns, Going, Level, Block, Above};
 ghost use Rattle.dispatch.specs.Rivals.{Bar, Places, Rivals, Gathered, Spread};
@@ -67,15 +68,15 @@ fn next(one: u64, step: u64, cap: u64, k: u64) -> u64
 
 // The same of each source's next MWh.
 fn find_left(
-    one: &[u64; 32],
-    step: &[u64; 32],
-    cap: &[u64; 32],
-    taken: &[u64; 32],
+    one: &[u64; LANES],
+    step: &[u64; LANES],
+    cap: &[u64; LANES],
+    taken: &[u64; LANES],
     n: usize,
-    left: &mut [u64; 32],
+    left: &mut [u64; LANES],
 )
     requires { ⌜ Sources (now one) (now step) (now cap) n ⌝ }
-    requires long { ⌜ length (now left) ≡ 32 ⌝ }
+    requires long { ⌜ length (now left) ≡ lanes ⌝ }
     ensures { λ _. ⌜ Left (now (one .entry)) (now (step .entry)) (now (cap .entry)) (now (taken .entry)) n (now (left .exit)) ⌝ }
 {
     let mut i = 0;
@@ -87,8 +88,8 @@ fn find_left(
 }
 
 // The source with the best next MWh; n where none has any.
-fn choose(up: bool, left: &[u64; 32], n: usize) -> usize
-    requires { ⌜ n ≤ 32 ⌝ }
+fn choose(up: bool, left: &[u64; LANES], n: usize) -> usize
+    requires { ⌜ n ≤ lanes ⌝ }
     requires small { ⌜ Small (now left) n ⌝ }
     ensures { λ i. ⌜ Highest up (now (left .entry)) n i ⌝ }
 {
@@ -110,19 +111,19 @@ fn choose(up: bool, left: &[u64; 32], n: usize) -> usize
 // The plain engine: one MWh at a time.
 pub fn plain(
     up: bool,
-    one: &[u64; 32],
-    step: &[u64; 32],
-    cap: &[u64; 32],
+    one: &[u64; LANES],
+    step: &[u64; LANES],
+    cap: &[u64; LANES],
     n: usize,
     total: u64,
-    taken: &mut [u64; 32],
+    taken: &mut [u64; LANES],
 )
     requires { ⌜ Sources (now one) (now step) (now cap) n ⌝ }
     requires room { ⌜ total ≤ sumTo (at (now cap)) n ⌝ }
-    requires blank { ⌜ now taken ≡ replicate 32 0 ⌝ }
+    requires blank { ⌜ now taken ≡ replicate lanes 0 ⌝ }
     ensures { λ _. ⌜ Taken up (now (one .entry)) (now (step .entry)) (now (cap .entry)) n total (now (taken .exit)) ⌝ }
 {
-    let mut left: [u64; 32] = [0; 32];
+    let mut left: [u64; LANES] = [0; LANES];
     find_left(one, step, cap, taken, n, &mut left);
     let mut moved: u64 = 0;
     while moved < total {
@@ -137,19 +138,19 @@ pub fn plain(
 
 // What each source has at and above the mark, and one more than the merit of its next MWh.
 fn take_above(
-    one: &[u64; 32],
-    step: &[u64; 32],
-    span: &[u64; 32],
-    inv: &[u64; 32],
-    cap: &[u64; 32],
+    one: &[u64; LANES],
+    step: &[u64; LANES],
+    span: &[u64; LANES],
+    inv: &[u64; LANES],
+    cap: &[u64; LANES],
     n: usize,
     mark: u64,
-    taken: &mut [u64; 32],
-    left: &mut [u64; 32],
+    taken: &mut [u64; LANES],
+    left: &mut [u64; LANES],
 )
     requires { ⌜ Sources (now one) (now step) (now cap) n ⌝ }
     requires scales { ⌜ Scales (now step) (now span) (now inv) n ⌝ }
-    requires long { ⌜ (length (now taken) ≡ 32) × (length (now left) ≡ 32) ⌝ }
+    requires long { ⌜ (length (now taken) ≡ lanes) × (length (now left) ≡ lanes) ⌝ }
     ensures { λ _. ⌜ Above (now (one .entry)) (now (step .entry)) (now (span .entry)) (now (inv .entry)) n mark (now (taken .entry)) (now (taken .exit)) ⌝ }
     ensures left { λ _. ⌜ Left (now (one .entry)) (now (step .entry)) (now (cap .entry)) (now (taken .exit)) n (now (left .exit)) ⌝ }
 {
@@ -173,7 +174,7 @@ fn block(step: u64, cap: u64, k: u64, rest: u64) -> u64
     if 0 < step {
         return 1;
     }
-    cutoff::least(rest, cap - k)
+    numbers::least(rest, cap - k)
 }
 
 // The i-th source in the turn at a tie.
@@ -187,16 +188,16 @@ fn turn(up: bool, n: usize, i: usize) -> usize
 // What the i-th has of the merit m.
 fn take_turn(
     up: bool,
-    one: &[u64; 32],
-    step: &[u64; 32],
-    cap: &[u64; 32],
+    one: &[u64; LANES],
+    step: &[u64; LANES],
+    cap: &[u64; LANES],
     n: usize,
     m: u64,
     total: u64,
     sum: u64,
     i: usize,
-    taken: &mut [u64; 32],
-    left: &mut [u64; 32],
+    taken: &mut [u64; LANES],
+    left: &mut [u64; LANES],
 ) -> u64
     requires { ⌜ Sources (now one) (now step) (now cap) n ⌝ }
     requires turns { ⌜ Turns up (now one) (now step) (now cap) n m total sum i (now taken) (now left) ⌝ }
@@ -219,15 +220,15 @@ fn take_turn(
 // Where many MWh are left: all that have the merit m, the best there is, in their turn.
 fn take_level(
     up: bool,
-    one: &[u64; 32],
-    step: &[u64; 32],
-    cap: &[u64; 32],
+    one: &[u64; LANES],
+    step: &[u64; LANES],
+    cap: &[u64; LANES],
     n: usize,
     m: u64,
     total: u64,
     sum: u64,
-    taken: &mut [u64; 32],
-    left: &mut [u64; 32],
+    taken: &mut [u64; LANES],
+    left: &mut [u64; LANES],
 ) -> u64
     requires { ⌜ Sources (now one) (now step) (now cap) n ⌝ }
     requires level { ⌜ Level up (now one) (now step) (now cap) n m total sum (now taken) (now left) ⌝ }
@@ -252,22 +253,22 @@ fn take_level(
 // Of all these sources: what is above a mark at once, and the rest block by block.
 fn take_best(
     up: bool,
-    one: &[u64; 32],
-    step: &[u64; 32],
-    span: &[u64; 32],
-    inv: &[u64; 32],
-    cap: &[u64; 32],
+    one: &[u64; LANES],
+    step: &[u64; LANES],
+    span: &[u64; LANES],
+    inv: &[u64; LANES],
+    cap: &[u64; LANES],
     n: usize,
     total: u64,
-    taken: &mut [u64; 32],
+    taken: &mut [u64; LANES],
 )
     requires { ⌜ Table (now one) (now step) (now span) (now inv) (now cap) n ⌝ }
     requires room { ⌜ total ≤ sumTo (at (now cap)) n ⌝ }
-    requires blank { ⌜ now taken ≡ replicate 32 0 ⌝ }
+    requires blank { ⌜ now taken ≡ replicate lanes 0 ⌝ }
     ensures { λ _. ⌜ Taken up (now (one .entry)) (now (step .entry)) (now (cap .entry)) n total (now (taken .exit)) ⌝ }
 {
     let p = cutoff::find_mark(one, step, span, inv, cap, n, total);
-    let mut left: [u64; 32] = [0; 32];
+    let mut left: [u64; LANES] = [0; LANES];
     take_above(one, step, span, inv, cap, n, p.merit, taken, &mut left);
     let mut sum = p.sum;
     while sum < total {
@@ -289,8 +290,8 @@ fn shaped(one: u64, step: u64, cap: u64) -> Shape
 {
     if step == 0 {
         return Shape {
-            span: cutoff::least(1, cap),
-            inv: cutoff::less(cap, 1) * 1099511627776,
+            span: numbers::least(1, cap),
+            inv: numbers::less(cap, 1) * 1099511627776,
         };
     }
     Shape {
@@ -301,15 +302,15 @@ fn shaped(one: u64, step: u64, cap: u64) -> Shape
 
 // The same of each source.
 fn scale(
-    one: &[u64; 32],
-    step: &[u64; 32],
-    cap: &[u64; 32],
+    one: &[u64; LANES],
+    step: &[u64; LANES],
+    cap: &[u64; LANES],
     n: usize,
-    span: &mut [u64; 32],
-    inv: &mut [u64; 32],
+    span: &mut [u64; LANES],
+    inv: &mut [u64; LANES],
 )
     requires { ⌜ Sources (now one) (now step) (now cap) n ⌝ }
-    requires long { ⌜ (length (now span) ≡ 32) × (length (now inv) ≡ 32) ⌝ }
+    requires long { ⌜ (length (now span) ≡ lanes) × (length (now inv) ≡ lanes) ⌝ }
     ensures { λ _. ⌜ Table (now (one .entry)) (now (step .entry)) (now (span .exit)) (now (inv .exit)) (now (cap .entry)) n ⌝ }
 {
     let mut i = 0;
@@ -324,30 +325,36 @@ fn scale(
 // The search among all these sources.
 fn take_scaled(
     up: bool,
-    one: &[u64; 32],
-    step: &[u64; 32],
-    cap: &[u64; 32],
+    one: &[u64; LANES],
+    step: &[u64; LANES],
+    cap: &[u64; LANES],
     n: usize,
     total: u64,
-    taken: &mut [u64; 32],
+    taken: &mut [u64; LANES],
 )
     requires { ⌜ Sources (now one) (now step) (now cap) n ⌝ }
     requires room { ⌜ total ≤ sumTo (at (now cap)) n ⌝ }
-    requires blank { ⌜ now taken ≡ replicate 32 0 ⌝ }
+    requires blank { ⌜ now taken ≡ replicate lanes 0 ⌝ }
     ensures { λ _. ⌜ Taken up (now (one .entry)) (now (step .entry)) (now (cap .entry)) n total (now (taken .exit)) ⌝ }
 {
-    let mut span: [u64; 32] = [0; 32];
-    let mut inv: [u64; 32] = [0; 32];
+    let mut span: [u64; LANES] = [0; LANES];
+    let mut inv: [u64; LANES] = [0; LANES];
     scale(one, step, cap, n, &mut span, &mut inv);
     take_best(up, one, step, &span, &inv, cap, n, total, taken);
 }
 
 // The merit, plus 1, of the last MWh of a source that has room for the whole total, the best there is; 0 where there is none.
-fn best_last(one: &[u64; 32], step: &[u64; 32], cap: &[u64; 32], n: usize, total: u64) -> u64
+fn best_last(
+    one: &[u64; LANES],
+    step: &[u64; LANES],
+    cap: &[u64; LANES],
+    n: usize,
+    total: u64,
+) -> u64
     requires { ⌜ Sources (now one) (now step) (now cap) n ⌝ }
     ensures { λ b. ⌜ Bar (now (one .entry)) (now (step .entry)) (now (cap .entry)) n total b ⌝ }
 {
-    let last = cutoff::less(total, 1);
+    let last = numbers::less(total, 1);
     let mut bar: u64 = 0;
     let mut i = 0;
     while i < n {
@@ -361,7 +368,7 @@ fn best_last(one: &[u64; 32], step: &[u64; 32], cap: &[u64; 32], n: usize, total
 }
 
 // The same; 0 also for so few sources that leaving some out does not pay.
-fn bar_of(one: &[u64; 32], step: &[u64; 32], cap: &[u64; 32], n: usize, total: u64) -> u64
+fn bar_of(one: &[u64; LANES], step: &[u64; LANES], cap: &[u64; LANES], n: usize, total: u64) -> u64
     requires { ⌜ Sources (now one) (now step) (now cap) n ⌝ }
     ensures { λ b. ⌜ Bar (now (one .entry)) (now (step .entry)) (now (cap .entry)) n total b ⌝ }
 {
@@ -372,9 +379,9 @@ fn bar_of(one: &[u64; 32], step: &[u64; 32], cap: &[u64; 32], n: usize, total: u
 }
 
 // The places of the sources that reach the bar, and how many they are.
-fn find_rivals(bar: u64, one: &[u64; 32], n: usize, places: &mut [usize; 32]) -> usize
-    requires { ⌜ n ≤ 32 ⌝ }
-    requires long { ⌜ length (now places) ≡ 32 ⌝ }
+fn find_rivals(bar: u64, one: &[u64; LANES], n: usize, places: &mut [usize; LANES]) -> usize
+    requires { ⌜ n ≤ lanes ⌝ }
+    requires long { ⌜ length (now places) ≡ lanes ⌝ }
     ensures { λ m. ⌜ Rivals bar (now (one .entry)) n (now (places .exit)) m ⌝ }
 {
     let mut m = 0;
@@ -390,9 +397,9 @@ fn find_rivals(bar: u64, one: &[u64; 32], n: usize, places: &mut [usize; 32]) ->
 }
 
 // What stands at these places, close together.
-fn gather(all: &[u64; 32], places: &[usize; 32], m: usize, few: &mut [u64; 32])
-    requires { ⌜ Places 32 (now places) m ⌝ }
-    requires long { ⌜ length (now few) ≡ 32 ⌝ }
+fn gather(all: &[u64; LANES], places: &[usize; LANES], m: usize, few: &mut [u64; LANES])
+    requires { ⌜ Places lanes (now places) m ⌝ }
+    requires long { ⌜ length (now few) ≡ lanes ⌝ }
     ensures { λ _. ⌜ Gathered (now (all .entry)) (now (places .entry)) m (now (few .exit)) ⌝ }
 {
     let mut k = 0;
@@ -405,9 +412,9 @@ fn gather(all: &[u64; 32], places: &[usize; 32], m: usize, few: &mut [u64; 32])
 }
 
 // And back: 0 at every other place.
-fn spread(few: &[u64; 32], places: &[usize; 32], m: usize, all: &mut [u64; 32])
-    requires { ⌜ Places 32 (now places) m ⌝ }
-    requires blank { ⌜ now all ≡ replicate 32 0 ⌝ }
+fn spread(few: &[u64; LANES], places: &[usize; LANES], m: usize, all: &mut [u64; LANES])
+    requires { ⌜ Places lanes (now places) m ⌝ }
+    requires blank { ⌜ now all ≡ replicate lanes 0 ⌝ }
     ensures { λ _. ⌜ Spread (now (few .entry)) (now (places .entry)) m (now (all .exit)) ⌝ }
 {
     let mut k = 0;
@@ -422,16 +429,16 @@ fn spread(few: &[u64; 32], places: &[usize; 32], m: usize, all: &mut [u64; 32])
 // The engine by price. Where a source has room for the whole total, those whose first MWh is below its last have no part and are left out; where it alone is left, it gives all.
 pub fn price(
     up: bool,
-    one: &[u64; 32],
-    step: &[u64; 32],
-    cap: &[u64; 32],
+    one: &[u64; LANES],
+    step: &[u64; LANES],
+    cap: &[u64; LANES],
     n: usize,
     total: u64,
-    taken: &mut [u64; 32],
+    taken: &mut [u64; LANES],
 )
     requires { ⌜ Sources (now one) (now step) (now cap) n ⌝ }
     requires room { ⌜ total ≤ sumTo (at (now cap)) n ⌝ }
-    requires blank { ⌜ now taken ≡ replicate 32 0 ⌝ }
+    requires blank { ⌜ now taken ≡ replicate lanes 0 ⌝ }
     ensures { λ _. ⌜ Taken up (now (one .entry)) (now (step .entry)) (now (cap .entry)) n total (now (taken .exit)) ⌝ }
 {
     let bar = bar_of(one, step, cap, n, total);
@@ -439,20 +446,20 @@ pub fn price(
         take_scaled(up, one, step, cap, n, total, taken);
         return;
     }
-    let mut places: [usize; 32] = [0; 32];
+    let mut places: [usize; LANES] = [0; LANES];
     let m = find_rivals(bar, one, n, &mut places);
     if m == 1 {
         let i = places[0];
         taken[i] = total;
         return;
     }
-    let mut o: [u64; 32] = [0; 32];
-    let mut d: [u64; 32] = [0; 32];
-    let mut c: [u64; 32] = [0; 32];
+    let mut o: [u64; LANES] = [0; LANES];
+    let mut d: [u64; LANES] = [0; LANES];
+    let mut c: [u64; LANES] = [0; LANES];
     gather(one, &places, m, &mut o);
     gather(step, &places, m, &mut d);
     gather(cap, &places, m, &mut c);
-    let mut few: [u64; 32] = [0; 32];
+    let mut few: [u64; LANES] = [0; LANES];
     take_scaled(up, &o, &d, &c, m, total, &mut few);
     spread(&few, &places, m, taken);
 }

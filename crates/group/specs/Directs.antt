@@ -1,13 +1,12 @@
--- What one D line's arithmetic rests on: b and the MWh are small, D only grows and stays within the level, and the cost charged only grows.
+-- What one D line's arithmetic rests on: b and the MWh are small, D only grows and stays within the level.
 use mathlib.Core.Bool.{false}
-use mathlib.Core.Path.{_≡_, refl, ap}
-use Prim.Native.Nat.{ℕ, _+_, _-_, _*_, _/_, _≤_, min}
+use mathlib.Core.Path.{_≡_, ap}
+use Prim.Native.Nat.{ℕ, _+_, _*_, _/_, _≤_, min}
 use native.Mathlib.Omega.{arith}
 use Rattle.laws.specs.Sums.{part-most}
-use Rattle.merit.specs.ChangedFromB.{changed-under}
 use Rattle.merit.specs.LevelNeverBelowB.{Sound, Took, directed-took}
 use Rattle.merit.specs.NumbersStaySmall.{Small}
-use Rattle.rules.specs.Group.{changed, level, basis, basic, basedOn, withBasic, renewed, directed}
+use Rattle.rules.specs.Group.{basis, basic, basedOn, withBasic, renewed, directed}
 use Rattle.rules.specs.declared.Basis.{Basis}
 use Rattle.rules.specs.declared.Direct.{Direct}
 use Rattle.rules.specs.declared.Running.{Running}
@@ -21,7 +20,6 @@ pub record Allocates (s : Running) (x : Basis) (p : ℕ) : Type 0 where
   pub more : s .d ≤ takenOf s x p
   pub within : takenOf s x p ≤ s .v + s .d
   pub part : takenOf s x p ≤ basic s x
-  pub charged : changed (withBasic s x) (s .d) ≤ changed (withBasic s x) (takenOf s x p)
 
 pub allocates : (s : Running) (line : Direct) → Sound s → Small s → s .percent + line .percent ≤ 100 → Allocates s (line .basis) (s .percent + line .percent)
 unfolding directed
@@ -34,19 +32,13 @@ allocates s line g l h =
       more = more;
       within = omega (arith, t .level);
       part = part;
-      charged = changed-under (withBasic s (line .basis)) refl (s .d) (takenOf s (line .basis) (s .percent + line .percent)) more part;
     }
 
 -- b where it is not set
 pub basic-new : (s : Running) (x : Basis) (r : ℕ) → s .based ≡ false → r ≡ min (s .v) (basis x (s .plant)) → r ≡ basic s x
 basic-new s x r e h = rw e h
 
--- one D line's state and charge, of the b that was set
-module _ (s : Running) (line : Direct) (t : Running) (e : t ≡ withBasic s (line .basis)) where
-  pub directed-is : renewed (basedOn s (t .b)) (s .percent + line .percent) ≡ directed s line
-  unfolding directed
-  directed-is = ap (λ (x : Running). renewed (basedOn s (x .b)) (s .percent + line .percent)) e
-
-  pub charged-is : (after before : ℕ) → let mwh = t .b * (s .percent + line .percent) / 100 in after ≡ changed t mwh → before ≡ changed (withBasic s (line .basis)) (s .d) →
-      s .paid + (after - before) ≡ s .paid + (changed (basedOn s (t .b)) mwh - changed (basedOn s (t .b)) (s .d))
-  charged-is after before a b = rw (a, b, e)
+-- one D line's state, of the b that was set
+pub directed-is : (s : Running) (line : Direct) (b : ℕ) → b ≡ basic s (line .basis) → renewed (basedOn s b) (s .percent + line .percent) ≡ directed s line
+unfolding directed
+directed-is s line b e = ap (λ (x : ℕ). renewed (basedOn s x) (s .percent + line .percent)) e

@@ -19,7 +19,7 @@ use Rattle.ladder.specs.Ways as ways
 use Rattle.ladder.specs.declared.Way.the-variants.{Down, Up}
 use Rattle.laws.specs.Choices.{false-not-true}
 use Rattle.laws.specs.Sums.{below-suc, sumTo-same}
-use Rattle.cutoff.specs.Lines.{at}
+use Rattle.cutoff.specs.Lines.{lanes, at}
 use Rattle.merit.specs.LevelNeverBelowB.{stateAt}
 use Rattle.merit.specs.RemainderMoves.{room-last}
 use Rattle.merit.specs.RemainderMoves as moves
@@ -37,7 +37,7 @@ pick true a b = b
 
 -- the steps of the first n sources, which no group changes
 pub record Steps (ss : List Running) (step : List ℕ) (n : ℕ) : Type 0 where
-  pub long : length step ≡ 32
+  pub long : length step ≡ lanes
   pub each : (i : ℕ) → i < n → at step i ≡ stepOf (stateAt ss i .plant)
 
 -- the steps, and the lines of both first ways
@@ -54,7 +54,7 @@ pub record Renewed (s : Running) (i : ℕ) (down room above head down′ room′
   pub raise : LineSet Up s i above head above′ head′ raise-room
 
 pub record RoomsSmall (cap : List ℕ) (n : ℕ) : Type 0 where
-  pub n-small : n ≤ 32
+  pub n-small : n ≤ lanes
   pub each : (i : ℕ) → i < n → at cap i ≤ 2000
 
 pub rooms-small : {one step cap : List ℕ} {n : ℕ} → Sources one step cap n → RoomsSmall cap n
@@ -77,14 +77,14 @@ first-all {cap = cap} {n = n} {rest = rest} h t = record { room = sym (le-leb re
 pub steps-as : {ss us : List Running} {step : List ℕ} {n : ℕ} → ((i : ℕ) → stateAt us i .plant ≡ stateAt ss i .plant) → Steps ss step n → Steps us step n
 steps-as h s = record { long = s .long; each = λ i l. rw (h i) (s .each i l) }
 
-steps-more : {ss : List Running} {step : List ℕ} {n x : ℕ} → n < 32 → Steps ss step n → x ≡ stepOf (stateAt ss n .plant) → Steps ss (set step n x) (n + 1)
+steps-more : {ss : List Running} {step : List ℕ} {n x : ℕ} → n < lanes → Steps ss step n → x ≡ stepOf (stateAt ss n .plant) → Steps ss (set step n x) (n + 1)
 steps-more {ss} {step} {n} {x} m s e = record {
   long = length-set step n x ∙ s .long;
   each = rw (add-one n) (below-suc (λ i. at (set step n x) i ≡ stepOf (stateAt ss i .plant)) n (λ i l. getD-set-other step n i x 0 (λ q. omega arith) ∙ s .each i l)
       (getD-set-same step n x 0 (omega (arith, s .long)) ∙ e));
 }
 
-pub lines-none : {ss : List Running} {step down room above head : List ℕ} → length step ≡ 32 → length down ≡ 32 → length room ≡ 32 → length above ≡ 32 → length head ≡ 32 → FirstLines ss step down room above head 0
+pub lines-none : {ss : List Running} {step down room above head : List ℕ} → length step ≡ lanes → length down ≡ lanes → length room ≡ lanes → length above ≡ lanes → length head ≡ lanes → FirstLines ss step down room above head 0
 lines-none a b c d e = record {
   steps = record { long = a; each = λ i l. absurd (omega arith) };
   lower = long-lines (record { long-one = b; long-step = a; long-cap = c });
@@ -96,7 +96,7 @@ lines-all {n = n} {i = i} a b f = let e : i ≡ n = omega arith in rw e at f
 
 module _ {ss : List Running} {step down room above head down′ room′ above′ head′ : List ℕ} {n : ℕ} (f : FirstLines ss step down room above head n) where
   -- one source more
-  pub lines-next : {x : ℕ} → n < 32 → x ≡ stepOf (stateAt ss n .plant) → Renewed (stateAt ss n) n down room above head down′ room′ above′ head′ → FirstLines ss (set step n x) down′ room′ above′ head′ (n + 1)
+  pub lines-next : {x : ℕ} → n < lanes → x ≡ stepOf (stateAt ss n .plant) → Renewed (stateAt ss n) n down room above head down′ room′ above′ head′ → FirstLines ss (set step n x) down′ room′ above′ head′ (n + 1)
   lines-next m e r = record {
     steps = steps-more m (f .steps) e;
     lower = ways.lines-next (Down Normal) (f .lower) m (r .lower) (ap (set step n) e);
@@ -104,7 +104,7 @@ module _ {ss : List Running} {step down room above head down′ room′ above′
   }
 
   -- one of them in another state, of the same plant
-  pub lines-renewed : {i : ℕ} {y : Running} → n ≤ 32 → i < n → i < length ss → y .plant ≡ stateAt ss i .plant → Renewed y i down room above head down′ room′ above′ head′ → FirstLines (set ss i y) step down′ room′ above′ head′ n
+  pub lines-renewed : {i : ℕ} {y : Running} → n ≤ lanes → i < n → i < length ss → y .plant ≡ stateAt ss i .plant → Renewed y i down room above head down′ room′ above′ head′ → FirstLines (set ss i y) step down′ room′ above′ head′ n
   lines-renewed {i} {y} m l b e r =
       let s : at step i ≡ stepOf (y .plant) = f .steps .each i l ∙ ap stepOf (sym e) in
       record {
@@ -132,7 +132,7 @@ module _ {ss : List Running} {step down room above head : List ℕ} {n : ℕ} (f
   first-lines false = f .lower
   first-lines true = f .raise
 
-  pub first-sources : n ≤ 32 → (up : Bool) → Sources (pick up down above) step (pick up room head) n
+  pub first-sources : n ≤ lanes → (up : Bool) → Sources (pick up down above) step (pick up room head) n
   first-sources l up = lines-sources (first-lines up) l
 
   module _ (number : InternalSequence) (total took rest : ℕ) (t : List ℕ) (ready : AllReady ss n) (d : rest ≡ apart total took) where

@@ -3,6 +3,7 @@
 pub mod first;
 
 use curve::Rung;
+use cutoff::LANES;
 use ladder::Way;
 use rules::Basis;
 use rules::Direct;
@@ -13,12 +14,11 @@ use rules::Running;
 use rules::Verdict;
 ghost use mathlib.Core.Path.{_≡_};
 ghost use Prim.Native.Nat.{_+_, _≤_};
-ghost use Rattle.rules.specs.Units.{normalLow, generation};
-ghost use Rattle.rules.specs.Group.{basis, basic, withBasic, directed, remainder};
+ghost use Rattle.rules.specs.Group.{basis, basic, directed, remainder};
 ghost use Rattle.merit.specs.LevelNeverBelowB.{Sound};
 ghost use Rattle.merit.specs.NumbersStaySmall.{Small};
 ghost use Rattle.ladder.specs.Ready.{AllReady};
-ghost use Rattle.group.specs.Settling.{settled, apart, tries, wayAt, Short, outcome};
+ghost use Rattle.group.specs.Settling.{settled, tries, wayAt, Short, outcome};
 
 // What a remainder comes to, and the states after it; where it is refused, as they were.
 pub struct Settled {
@@ -26,32 +26,12 @@ pub struct Settled {
     pub states: [Running; 32],
 }
 
-fn normal_low(p: Plant) -> u32
-    ensures { λ r. ⌜ r ≡ normalLow p ⌝ }
-{
-    match p {
-        Plant::Unit(u) => u.n,
-        Plant::Purchase { g: _, rate: _ } => 0,
-        Plant::Fixed { g: _ } => 0,
-    }
-}
-
-pub fn generation_of(p: Plant) -> u32
-    ensures { λ r. ⌜ r ≡ generation p ⌝ }
-{
-    match p {
-        Plant::Unit(u) => u.g,
-        Plant::Purchase { g, rate: _ } => g,
-        Plant::Fixed { g } => g,
-    }
-}
-
 fn basis_of(x: Basis, p: Plant) -> u32
     ensures { λ r. ⌜ r ≡ basis x p ⌝ }
 {
     match x {
-        Basis::Low => normal_low(p),
-        Basis::Generation => generation_of(p),
+        Basis::Low => curve::low_at(p, Rung::Normal),
+        Basis::Generation => p.generation(),
         Basis::Mwh(m) => m,
     }
 }
@@ -71,22 +51,6 @@ fn basic_of(s: Running, x: Basis) -> u32
     most
 }
 
-fn with_basic(s: Running, x: Basis) -> Running
-    ensures { λ r. ⌜ r ≡ withBasic s x ⌝ }
-{
-    let p = s.plant;
-    let b = basic_of(s, x);
-    Running {
-        plant: p,
-        v: s.v,
-        d: s.d,
-        b: b,
-        based: true,
-        percent: s.percent,
-        paid: s.paid,
-    }
-}
-
 // A source after one D line.
 pub fn allocate(s: Running, line: Direct) -> Running
     requires { ⌜ Sound s × Small s ⌝ }
@@ -94,17 +58,10 @@ pub fn allocate(s: Running, line: Direct) -> Running
     ensures { λ r. ⌜ r ≡ directed s line ⌝ }
 {
     let x = line.basis;
-    let t = with_basic(s, x);
-    let b = t.b;
+    let b = basic_of(s, x);
     let percent = s.percent + line.percent;
     let mwh = b * percent / 100;
-    let after = curve::changed_cost(t, mwh);
-    let before = if s.d == 0 {
-        0
-    } else {
-        curve::changed_cost(t, s.d)
-    };
-    s.with_direct(mwh, b, percent, s.paid + (after - before))
+    s.with_direct(mwh, b, percent)
 }
 
 // How many ways by prices a remainder has: three rungs down, or one up.
@@ -131,15 +88,6 @@ fn way_at(up: bool, i: usize) -> Way
         return Way::Down(Rung::Oil);
     }
     Way::Down(Rung::Emergency)
-}
-
-pub fn distance(a: u64, b: u64) -> u64
-    ensures { λ r. ⌜ r ≡ apart a b ⌝ }
-{
-    if b <= a {
-        return a - b;
-    }
-    b - a
 }
 
 // Where none of them has room: the last step, or 12; for a credit 13.
@@ -186,11 +134,11 @@ pub fn settle(
     ensures { λ r. ⌜ r ≡ settled states (remainder number n total took states) ⌝ }
 {
     let up = total < took;
-    let rest = distance(total, took);
+    let rest = numbers::distance(total, took);
     let ways = tries_of(up);
-    let mut one: [u64; 32] = [0; 32];
-    let mut step: [u64; 32] = [0; 32];
-    let mut cap: [u64; 32] = [0; 32];
+    let mut one: [u64; LANES] = [0; LANES];
+    let mut step: [u64; LANES] = [0; LANES];
+    let mut cap: [u64; LANES] = [0; LANES];
     let mut end = Settled {
         verdict: Verdict::Accepted,
         states: states,
@@ -208,7 +156,7 @@ pub fn settle(
             i += 1;
         }
         if rest <= sum {
-            let mut taken: [u64; 32] = [0; 32];
+            let mut taken: [u64; LANES] = [0; LANES];
             ladder::shift::take(by_price, up, &one, &step, &cap, n, rest, &mut taken);
             let mut k = 0;
             while k < n {

@@ -1,103 +1,76 @@
--- The groups gone through one by one, from the highest number down: where a run stands, and what a group with members makes of it.
-use mathlib.Core.List.{List, map}
-use mathlib.Core.Path.{_≡_, refl, ap, _∙_}
-use Prim.Native.Nat.{ℕ, zero, suc, _+_, _-_, _≤_, _<_}
-use native.Mathlib.Omega.{arith}
-use borrow.Author.Tests.{ne-eqb}
+-- The groups gone through one by one, in their turns: where a run stands, and what a group makes of it.
+use mathlib.Core.Bool.{true}
+use mathlib.Core.List.{List, [], _∷_, map}
+use mathlib.Core.Path.{_≡_, refl, sym, ap, _∙_}
+use Prim.Native.Nat.{ℕ, _<_}
 use lib.ListN.{replicate}
-use Rattle.balance.specs.HourBalances.{afterLines, started}
-use Rattle.laws.specs.Internal.{internal}
+use Rattle.balance.specs.HourBalances.{Grouped}
+use Rattle.laws.specs.Keys.{among, first-once, Turns, turns-rest, turns-first}
 use Rattle.rules.specs.Group.{opened, groupLines, remainder}
-use Rattle.rules.specs.Hour.{member, scheduled, counted, Progress, shared, tookAll, rest, group, descending, groups}
+use Rattle.rules.specs.Hour.{keys, keyAt, member, scheduled, Progress, shared, tookAll, rest, group, turns, groups, opening}
 use Rattle.rules.specs.Refusals.{Outcome, accepted, refused, andThen}
+use Rattle.rules.specs.Writing.{valid}
 use Rattle.rules.specs.declared.Hour.{Hour}
-use Rattle.rules.specs.declared.InternalSequence.{InternalSequence}
+use Rattle.rules.specs.declared.Key.{Key}
 use Rattle.rules.specs.declared.Refusal.{Refusal}
 use Rattle.rules.specs.declared.Running.{Running}
-use Rattle.groups.specs.AmountsKept.{Kept, kept-start, kept-pass}
+use Rattle.groups.specs.MovesOfGroups.{Kept, kept-start}
+use Rattle.groups.specs.StatesStayReady.{Standing, start-standing, grouped-standing}
 
-module _ (h : Hour) (ns : List InternalSequence) where
-  groups-next : (k : ℕ) (o : Outcome Progress) → groups h ns k ≡ o → groups h ns (suc k) ≡ andThen o (group h ns (descending k))
-  unfolding groups
-  groups-next k o e = ap (λ (q : Outcome Progress). andThen q (group h ns (descending k))) e
+module _ (h : Hour) (ks : List Key) where
+  -- what all groups come to
+  abbrev pub whole : Outcome Progress
+  whole = groups h ks (turns (keys h)) (opening h)
 
-  -- numbers that no delivery has
-  group-none : (x : InternalSequence) (p : Progress) → counted ns x (h .ndeliveries) ≡ 0 → group h ns x p ≡ accepted p
-  unfolding group
-  group-none x p e = rw e
+  abbrev pub leftAfter : Key → List Running → List Running → Outcome (List Running)
+  leftAfter x ss ts = remainder (x .number) (h .nsources) (scheduled h ks x (h .ndeliveries)) (tookAll (h .nsources) ss ts) ts
 
-  groups-pass : (k m : ℕ) (p : Progress) → k + m ≤ 1000 → groups h ns k ≡ accepted p →
-      ((y : ℕ) → 1000 - (k + m) ≤ y → y < 1000 - k → counted ns (internal y) (h .ndeliveries) ≡ 0) → groups h ns (k + m) ≡ accepted p
-  groups-pass k zero p l e f = let z : k + 0 ≡ k = omega arith in rw z e
-  groups-pass k (suc m) p l e f =
-      let z : k + suc m ≡ suc (k + m) = omega arith in
-      rw z (groups-next (k + m) (accepted p) (groups-pass k m p (omega arith) e (λ y a b. f y (omega arith) b)) ∙ group-none (descending (k + m)) p (f (999 - (k + m)) (omega arith) (omega arith)))
+  abbrev pub directedTo : Key → List Running → List Running
+  directedTo x ss = groupLines (member ks x) (h .directs) ss (h .ndirects)
 
-  -- what is refused stays so
-  groups-refused : (k m : ℕ) (r : Refusal) → groups h ns k ≡ refused r → groups h ns (k + m) ≡ refused r
-  groups-refused k zero r e = let z : k + 0 ≡ k = omega arith in rw z e
-  groups-refused k (suc m) r e = let z : k + suc m ≡ suc (k + m) = omega arith in rw z (groups-next (k + m) (refused r) (groups-refused k m r e))
+  -- where group x leaves a run
+  abbrev gone : Key → Progress → List Running → Progress
+  gone x p us = record { states = us; cells = shared h ks x (p .states) (directedTo x (p .states)) us (p .cells) }
 
-  -- a group with members
-  abbrev pub leftAfter : InternalSequence → List Running → List Running → Outcome (List Running)
-  leftAfter x ss ts = remainder x (h .nsources) (scheduled h ns x (h .ndeliveries)) (tookAll (h .nsources) ss ts) ts
-
-  abbrev pub directedTo : InternalSequence → List Running → List Running
-  directedTo x ss = groupLines (member ns x) (h .directs) ss (h .ndirects)
-
-  group-members : (x : InternalSequence) (p : Progress) (o : Outcome (List Running)) → 0 < counted ns x (h .ndeliveries) → leftAfter x (p .states) (afterLines h ns (x .0) p) ≡ o →
-      group h ns x p ≡ andThen o (λ us. accepted (record { states = us; cells = shared h ns x (p .states) (afterLines h ns (x .0) p) us (p .cells) }))
+  group-is : (x : Key) (p : Progress) (o : Outcome (List Running)) → leftAfter x (p .states) (directedTo x (p .states)) ≡ o → group h ks x p ≡ andThen o (λ us. accepted (gone x p us))
   unfolding group rest
-  group-members x p o l e =
-      rw (ne-eqb (counted ns x (h .ndeliveries)) 0 (λ z. omega arith))
-      (ap (λ (q : Outcome (List Running)). andThen q (λ us. accepted (record { states = us; cells = shared h ns x (p .states) (afterLines h ns (x .0) p) us (p .cells) }))) e)
+  group-is x p o e = ap (λ (q : Outcome (List Running)). andThen q (λ us. accepted (gone x p us))) e
 
-  -- all numbers from x up are done, and left these states and tables
-  pub record Reached (x : ℕ) (ss : List Running) (led direct moved : List ℕ) : Type 0 where
-    pub within : x ≤ 1000
+  -- the groups of xs are still to come; the others left these states and this table
+  pub record Reached (xs : List Key) (ss : List Running) (led kept : List ℕ) : Type 0 where
+    pub turns : Turns ks (h .ndeliveries) xs
     pub progress : Progress
-    pub run : groups h ns (1000 - x) ≡ accepted progress
+    pub run : whole ≡ groups h ks xs progress
+    pub stands : Standing h ks xs progress
     pub states : ss ≡ progress .states
-    pub kept : Kept h ns x (progress .cells) led direct moved
+    pub table : Kept h ks xs (progress .cells) led kept ss
 
-  pub reached-start : (ss : List Running) → ss ≡ map (λ s. opened (s .plant)) (h .sources) → Reached 1000 ss (replicate 32 0) (replicate 1024 0) (replicate 1024 0)
-  unfolding groups
-  reached-start ss e = record { within = omega arith; progress = started h ns; run = refl; states = e; kept = kept-start h ns }
+  pub reached-start : (ss : List Running) → valid h ≡ true → ss ≡ map (λ s. opened (s .plant)) (h .sources) → Turns ks (h .ndeliveries) (turns (keys h)) →
+      ((k : ℕ) → k < h .ndeliveries → among (turns (keys h)) (keyAt ks k) ≡ true) → Reached (turns (keys h)) ss (replicate 32 0) (replicate 1024 0)
+  reached-start ss v e t all = record {
+    turns = t;
+    progress = opening h;
+    run = refl;
+    stands = start-standing h ks v (turns (keys h));
+    states = e;
+    table = kept-start h ks (turns (keys h)) ss all;
+  }
 
-  pub reached-pass : (x y : ℕ) (ss : List Running) (led direct moved : List ℕ) → y ≤ x → ((z : ℕ) → y ≤ z → z < x → counted ns (internal z) (h .ndeliveries) ≡ 0) → Reached x ss led direct moved → Reached y ss led direct moved
-  reached-pass x y ss led direct moved l f r =
-      let b = r .within in
-      let e : (1000 - x) + (x - y) ≡ 1000 - y = omega arith in
-      record {
-        within = omega arith;
-        progress = r .progress;
-        run = rw e at (groups-pass (1000 - x) (x - y) (r .progress) (omega arith) (r .run) (λ z a c. f z (omega arith) (omega arith)));
-        states = r .states;
-        kept = kept-pass h ns x y (r .progress .cells) led direct moved l f (r .kept);
-      }
+  module _ (x : Key) (xs : List Key) (ss : List Running) (led kept : List ℕ) (r : Reached (x ∷ xs) ss led kept) where
+    after-group : (o : Outcome (List Running)) → leftAfter x ss (directedTo x ss) ≡ o → whole ≡ andThen (andThen o (λ us. accepted (gone x (r .progress) us))) (groups h ks xs)
+    unfolding groups
+    after-group o e = r .run ∙ ap (λ (q : Outcome Progress). andThen q (groups h ks xs)) (group-is x (r .progress) o (rw (r .states) at e))
 
-  module _ (x : InternalSequence) (ss : List Running) (led direct moved : List ℕ) (r : Reached (suc (x .0)) ss led direct moved) (l : 0 < counted ns x (h .ndeliveries)) where
-    after-group : (o : Outcome (List Running)) → leftAfter x ss (directedTo x ss) ≡ o →
-        groups h ns (1000 - x .0) ≡ andThen o (λ us. accepted (record { states = us; cells = shared h ns x (r .progress .states) (afterLines h ns (x .0) (r .progress)) us (r .progress .cells) }))
-    after-group o e =
-        let b = r .within in
-        let up : 1000 - x .0 ≡ suc (1000 - suc (x .0)) = omega arith in
-        let down : 999 - (1000 - suc (x .0)) ≡ x .0 = omega arith in
-        rw up (groups-next (1000 - suc (x .0)) (accepted (r .progress)) (r .run) ∙ ap (λ (y : ℕ). group h ns (internal y) (r .progress)) down ∙ group-members x (r .progress) o l (rw (r .states) at e))
+    pub reached-turn : (us : List Running) (led′ kept′ : List ℕ) → leftAfter x ss (directedTo x ss) ≡ accepted us → Kept h ks xs (shared h ks x ss (directedTo x ss) us (r .progress .cells)) led′ kept′ us → Reached xs us led′ kept′
+    reached-turn us led′ kept′ e k = record {
+      turns = turns-rest ks (h .ndeliveries) x xs (r .turns);
+      progress = gone x (r .progress) us;
+      run = after-group (accepted us) e;
+      stands = grouped-standing h ks x xs (r .progress) (r .turns) (r .stands) (gone x (r .progress) us)
+          (record { members = turns-first ks (h .ndeliveries) x xs (r .turns); us = us; done = rw (r .states) at e; is = refl });
+      states = refl;
+      table = rw (r .states) at k;
+    }
 
-    pub reached-turn : (us : List Running) (led′ direct′ moved′ : List ℕ) → leftAfter x ss (directedTo x ss) ≡ accepted us → Kept h ns (x .0) (shared h ns x ss (directedTo x ss) us (r .progress .cells)) led′ direct′ moved′ → Reached (x .0) us led′ direct′ moved′
-    reached-turn us led′ direct′ moved′ e k =
-        let b = r .within in
-        record {
-          within = omega arith;
-          progress = record { states = us; cells = shared h ns x (r .progress .states) (afterLines h ns (x .0) (r .progress)) us (r .progress .cells) };
-          run = after-group (accepted us) e;
-          states = refl;
-          kept = rw (r .states) at k;
-        }
-
-    pub reached-refused : (y : Refusal) → leftAfter x ss (directedTo x ss) ≡ refused y → groups h ns 1000 ≡ refused y
-    reached-refused y e =
-        let b = r .within in
-        let z : (1000 - x .0) + x .0 ≡ 1000 = omega arith in
-        rw z at (groups-refused (1000 - x .0) (x .0) y (after-group (refused y) e))
+    pub reached-refused : (y : Refusal) → leftAfter x ss (directedTo x ss) ≡ refused y → whole ≡ refused y
+    reached-refused y e = after-group (refused y) e

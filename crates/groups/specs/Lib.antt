@@ -2,7 +2,7 @@ pub mod StatesOpened
 pub mod MwhsListed
 pub mod LinesTaken
 pub mod StatesStayReady
-pub mod AmountsKept
+pub mod RowKept
+pub mod MovesOfGroups
 pub mod GroupsOneByOne
 pub mod GroupTurns
-pub mod AllMoved

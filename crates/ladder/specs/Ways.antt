@@ -17,7 +17,7 @@ use Rattle.ladder.specs.declared.Way.{Way}
 use Rattle.ladder.specs.declared.Way.the-variants.{Down, Up}
 use Rattle.laws.specs.Choices.{false-not-true}
 use Rattle.laws.specs.Sums.{sumTo-same}
-use Rattle.cutoff.specs.Lines.{at}
+use Rattle.cutoff.specs.Lines.{lanes, at}
 use Rattle.merit.specs.LevelNeverBelowB.{stateAt}
 use Rattle.merit.specs.PricesRise.{price}
 use Rattle.merit.specs.RemainderMoves.{room-open}
@@ -74,11 +74,11 @@ room-down way x s r g e h = let z : r ≡ wayOf way .room s = rw e (h ∙ sym (d
 pub room-up : (way : Way) (s : Running) (r : ℕ) → Ready s → way ≡ Up → r ≡ headroom s → (r ≡ wayOf way .room s) × (r ≤ 2000)
 room-up way s r g e h = let z : r ≡ wayOf way .room s = rw e h in (z, omega (arith, room-small way s g))
 
--- three lists that may hold the lines of 32 sources
+-- three lists that may hold an engine's lines
 pub record Long (one step cap : List ℕ) : Type 0 where
-  pub long-one : length one ≡ 32
-  pub long-step : length step ≡ 32
-  pub long-cap : length cap ≡ 32
+  pub long-one : length one ≡ lanes
+  pub long-step : length step ≡ lanes
+  pub long-cap : length cap ≡ lanes
 
 module _ {up : Bool} {roomOf : Running → ℕ} {ss : List Running} {one step cap : List ℕ} where
   pub long-lines : Long one step cap → LinesOf up roomOf ss one step cap 0
@@ -104,12 +104,12 @@ pub record LineSet (way : Way) (s : Running) (i : ℕ) (one cap one′ cap′ : 
 
 module _ (way : Way) {ss : List Running} {one step cap one′ cap′ : List ℕ} {n r : ℕ} (lines : LinesOf (upOf way) (wayOf way .room) ss one step cap n) where
   -- one source more
-  pub lines-next : {step′ : List ℕ} → n < 32 → LineSet way (stateAt ss n) n one cap one′ cap′ r → step′ ≡ set step n (stepOf (stateAt ss n .plant)) →
+  pub lines-next : {step′ : List ℕ} → n < lanes → LineSet way (stateAt ss n) n one cap one′ cap′ r → step′ ≡ set step n (stepOf (stateAt ss n .plant)) →
       LinesOf (upOf way) (wayOf way .room) ss one′ step′ cap′ (n + 1)
   lines-next l t e = rw (t .one-is, e, t .cap-is) (lines-more lines l (t .lined) (t .room))
 
   -- one of them in another state
-  pub lines-renewed : (i : ℕ) (y : Running) → n ≤ 32 → i < n → i < length ss → LineSet way y i one cap one′ cap′ r → at step i ≡ stepOf (y .plant) →
+  pub lines-renewed : (i : ℕ) (y : Running) → n ≤ lanes → i < n → i < length ss → LineSet way y i one cap one′ cap′ r → at step i ≡ stepOf (y .plant) →
       LinesOf (upOf way) (wayOf way .room) (set ss i y) one′ step cap′ n
   lines-renewed i y small l long t e = rw (t .one-is, t .cap-is) (record {
     long-one = length-set one i (t .top) ∙ lines .long-one;

@@ -3,10 +3,12 @@
 pub mod shift;
 
 use curve::Rung;
+use cutoff::LANES;
 use rules::Plant;
 use rules::Running;
 ghost use mathlib.Core.Path.{_≡_};
 ghost use Prim.Native.Nat.{_+_, _≤_, _<_};
+ghost use Rattle.cutoff.specs.Lines.{lanes};
 ghost use Rattle.rules.specs.Group.{all, room, emergency, last, unitRoom, plain, lastStep, toEmergency};
 ghost use Rattle.ladder.specs.Ready.{Ready, AllReady};
 ghost use Rattle.ladder.specs.Ways.{wayOf, upOf, LineSet};
@@ -39,8 +41,14 @@ fn up_of(way: Way) -> bool
 }
 
 // The top of a source's line and its room, put in their places.
-pub fn set_line(way: Way, one: &mut [u64; 32], cap: &mut [u64; 32], i: usize, s: Running) -> u64
-    requires { ⌜ i < 32 ⌝ }
+pub fn set_line(
+    way: Way,
+    one: &mut [u64; LANES],
+    cap: &mut [u64; LANES],
+    i: usize,
+    s: Running,
+) -> u64
+    requires { ⌜ i < lanes ⌝ }
     requires ready { ⌜ Ready s ⌝ }
     ensures { λ r. ⌜ LineSet way s i (now (one .entry)) (now (cap .entry)) (now (one .exit)) (now (cap .exit)) r ⌝ }
 {
@@ -140,7 +148,7 @@ fn last_step(states: [Running; 32], n: usize, total: u64) -> [Running; 32]
         let i = dearest(after, n);
         let s = after[i];
         let room = unit_room(s);
-        let k = cutoff::least(room, rest);
+        let k = numbers::least(room, rest);
         after[i] = shift::shift_one(false, s, k);
         rest -= k;
     }

@@ -1,5 +1,6 @@
 // Sources moved by an engine, down (up is false) or up: each source's line of merit, what the one or the other engine takes, and a source after it.
 // The contracts cite dispatch's `Lined` and `Taken`, rules' `lowered` and `raised`, and specs/ for a source that may be moved.
+use cutoff::LANES;
 use rules::Plant;
 use rules::Running;
 ghost use mathlib.Core.Bool.{true, false};
@@ -8,7 +9,7 @@ ghost use Prim.Native.Nat.{_≤_};
 ghost use lib.ListN.{replicate};
 ghost use Rattle.rules.specs.Words.{sumTo};
 ghost use Rattle.rules.specs.Group.{level};
-ghost use Rattle.cutoff.specs.Lines.{at};
+ghost use Rattle.cutoff.specs.Lines.{lanes, at};
 ghost use Rattle.merit.specs.PricesRise.{price};
 ghost use Rattle.merit.specs.NumbersStaySmall.{PlantSmall};
 ghost use Rattle.dispatch.specs.LinesOfPrices.{Lined};
@@ -98,16 +99,16 @@ pub fn top_of(up: bool, s: Running, cap: u64) -> u64
 pub fn take(
     by_price: bool,
     up: bool,
-    one: &[u64; 32],
-    step: &[u64; 32],
-    cap: &[u64; 32],
+    one: &[u64; LANES],
+    step: &[u64; LANES],
+    cap: &[u64; LANES],
     n: usize,
     total: u64,
-    taken: &mut [u64; 32],
+    taken: &mut [u64; LANES],
 )
     requires { ⌜ Sources (now one) (now step) (now cap) n ⌝ }
     requires room { ⌜ total ≤ sumTo (at (now cap)) n ⌝ }
-    requires blank { ⌜ now taken ≡ replicate 32 0 ⌝ }
+    requires blank { ⌜ now taken ≡ replicate lanes 0 ⌝ }
     ensures { λ _. ⌜ Taken up (now (one .entry)) (now (step .entry)) (now (cap .entry)) n total (now (taken .exit)) ⌝ }
 {
     if by_price {

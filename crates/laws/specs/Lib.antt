@@ -4,4 +4,5 @@ pub mod Sums
 pub mod Signed
 pub mod Parts
 pub mod Internal
+pub mod Keys
 pub mod Answers

@@ -4,3 +4,4 @@ pub mod Live
 pub mod Rows
 pub mod Members
 pub mod Leads
+pub mod MwhsListed

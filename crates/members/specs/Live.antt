@@ -1,6 +1,6 @@
 -- The places of a row that are gone through: those whose size is not 0, in order.
 use mathlib.Core.Bool.{Bool, false}
-use mathlib.Core.List.{List}
+use mathlib.Core.List.{List, map}
 use mathlib.Core.Path.{_≡_, refl, sym, ap, _∙_}
 use Prim.Native.Nat.{ℕ, zero, suc, _+_, _*_, _/_, _%_, _≤_, _<_}
 use native.Mathlib.Decide.{decLt}
@@ -8,33 +8,33 @@ use native.Mathlib.Numerals.{add-one}
 use native.Mathlib.Omega.{arith}
 use lib.ListN.{length, getD, set, length-set}
 use lib.Seq.{getD-set-same, getD-set-other}
-use Rattle.amounts.specs.Amounts.{told}
-use Rattle.amounts.specs.Packed.{mwhIn, costIn}
 use Rattle.laws.specs.Sums.{below-suc}
-use Rattle.members.specs.Shared.{placeOf, place-small}
-use Rattle.rules.specs.Group.{Item, directMwh, incrementalMwh, directCost, incrementalCost, Amount}
+use Rattle.merit.specs.LevelNeverBelowB.{stateAt}
+use Rattle.moves.specs.MovesKept.{before, after}
+use Rattle.moves.specs.ToldIsTaken.{told, itemAt, told-none}
+use Rattle.moves.specs.declared.Amounts.{Amounts}
+use Rattle.rules.specs.Group.{Item, Amount}
+use Rattle.rules.specs.Hour.{items, pairWidth}
+use Rattle.rules.specs.declared.Running.{Running}
+
+-- a row's places: a pair's cells, of each of 32 sources
+abbrev pub rowWidth : ℕ
+rowWidth = 32 * pairWidth
 
 -- how far the first k listed places reach: one past the last of them
 unfoldable pub reached : List ℕ → ℕ → ℕ
 reached live zero = 0
 reached live (suc k) = getD live k 0 + 1
 
--- the amount among a source's four, which its two numbers tell
-abbrev pub amongFour : ℕ → ℕ → ℕ → Amount
-amongFour d m zero = mwhIn d
-amongFour d m (suc zero) = mwhIn m
-amongFour d m (suc (suc zero)) = costIn d
-amongFour d m (suc (suc (suc r))) = costIn m
-
--- the amount at place q of a group's row, from a place of the tables on
-abbrev pub amountAt : List ℕ → List ℕ → ℕ → ℕ → Amount
-amountAt direct moved from q = amongFour (getD direct (from + q / 4) 0) (getD moved (from + q / 4) 0) (q % 4)
+-- the amount at place q of a group's row, from a place of the table on, by the states in the end
+abbrev pub amountAt : List Running → List ℕ → ℕ → ℕ → Amount
+amountAt es kept from q = told (stateAt es (q / pairWidth)) (getD kept (from + q / pairWidth) 0) (itemAt (q % pairWidth))
 
 -- the places below q but the first k listed, which rise, have size 0; those listed have their amounts beside them
 pub record Listed (a : ℕ → Amount) (q : ℕ) (live sizes : List ℕ) (minus : List Bool) (k : ℕ) : Type 0 where
-  pub long : length live ≡ 128
-  pub sizes-long : length sizes ≡ 128
-  pub minus-long : length minus ≡ 128
+  pub long : length live ≡ rowWidth
+  pub sizes-long : length sizes ≡ rowWidth
+  pub minus-long : length minus ≡ rowWidth
   pub few : k ≤ q
   pub place : (i : ℕ) → i < k → getD live i 0 < q
   pub rises : (i : ℕ) → i < k → reached live i ≤ getD live i 0
@@ -43,35 +43,17 @@ pub record Listed (a : ℕ → Amount) (q : ℕ) (live sizes : List ℕ) (minus 
   pub size : (i : ℕ) → i < k → getD sizes i 0 ≡ a (getD live i 0) .size
   pub sign : (i : ℕ) → i < k → getD minus i false ≡ a (getD live i 0) .minus
 
--- place r among the four of source i
-amount-at : (direct moved : List ℕ) (from i r q : ℕ) → r < 4 → q ≡ i * 4 + r → amountAt direct moved from q ≡ amongFour (getD direct (from + i) 0) (getD moved (from + i) 0) r
-amount-at direct moved from i r q l z =
-    let e : q / 4 ≡ i = omega arith in
-    let f : q % 4 ≡ r = omega arith in
+-- an item's amount is what the source's entry tells
+pub amount-told : (es : List Running) (kept : List ℕ) (from i k : ℕ) → k < pairWidth → amountAt es kept from (i * pairWidth + k) ≡ told (stateAt es i) (getD kept (from + i) 0) (itemAt k)
+amount-told es kept from i k l =
+    let e : (i * pairWidth + k) / pairWidth ≡ i = omega arith in
+    let f : (i * pairWidth + k) % pairWidth ≡ k = omega arith in
     rw (e, f)
 
-among-told : (d m : ℕ) (item : Item) → amongFour d m (placeOf item) ≡ told d m item
-among-told d m directMwh = refl
-among-told d m incrementalMwh = refl
-among-told d m directCost = refl
-among-told d m incrementalCost = refl
-
--- an item's amount is what the source's numbers tell
-pub amount-told : (direct moved : List ℕ) (from i : ℕ) (item : Item)
-    → amountAt direct moved from (i * 4 + placeOf item) ≡ told (getD direct (from + i) 0) (getD moved (from + i) 0) item
-amount-told direct moved from i item =
-    amount-at direct moved from i (placeOf item) (i * 4 + placeOf item) (place-small item) refl ∙ among-told (getD direct (from + i) 0) (getD moved (from + i) 0) item
-
-among-none : (r : ℕ) → amongFour 0 0 r .size ≡ 0
-among-none zero = refl
-among-none (suc zero) = refl
-among-none (suc (suc zero)) = refl
-among-none (suc (suc (suc r))) = refl
-
--- of a source whose two numbers are 0 nothing is taken
-pub source-none : (direct moved : List ℕ) (from i : ℕ) → getD direct (from + i) 0 ≡ 0 → getD moved (from + i) 0 ≡ 0 → (p : ℕ) → i * 4 ≤ p → p < (i + 1) * 4
-    → amountAt direct moved from p .size ≡ 0
-source-none direct moved from i d m p l n = let e : p / 4 ≡ i = omega arith in rw (e, d, m) (among-none (p % 4))
+-- of a source that stands as before nothing is taken
+pub source-none : (es : List Running) (kept : List ℕ) (from i : ℕ) → before (getD kept (from + i) 0) ≡ after (getD kept (from + i) 0) → (p : ℕ) → i * pairWidth ≤ p → p < (i + 1) * pairWidth
+    → amountAt es kept from p .size ≡ 0
+source-none es kept from i h p l n = let e : p / pairWidth ≡ i = omega arith in rw e (told-none (stateAt es i) (getD kept (from + i) 0) h (itemAt (p % pairWidth)))
 
 pub reached-more : (live : List ℕ) (k : ℕ) → reached live (k + 1) ≡ getD live k 0 + 1
 unfolding reached
@@ -93,7 +75,7 @@ module _ (a : ℕ → Amount) (live sizes : List ℕ) (minus : List Bool) where
   reached-most q zero l = omega arith
   reached-most q (suc k) l = omega (arith, l .place k (omega arith))
 
-  pub listed-none : length live ≡ 128 → length sizes ≡ 128 → length minus ≡ 128 → Listed a 0 live sizes minus 0
+  pub listed-none : length live ≡ rowWidth → length sizes ≡ rowWidth → length minus ≡ rowWidth → Listed a 0 live sizes minus 0
   listed-none h n b = record {
     long = h;
     sizes-long = n;
@@ -122,7 +104,7 @@ module _ (a : ℕ → Amount) (live sizes : List ℕ) (minus : List Bool) where
     sign = s .sign;
   }
 
-  module _ (q k : ℕ) (within : q < 128) (s : Listed a q live sizes minus k) (n : ℕ) (b : Bool) where
+  module _ (q k : ℕ) (within : q < rowWidth) (s : Listed a q live sizes minus k) (n : ℕ) (b : Bool) where
     size-kept : (i : ℕ) → i < k → getD (set sizes k n) i 0 ≡ a (getD (set live k q) i 0) .size
     size-kept i l = getD-set-other sizes k i n 0 (λ e. omega arith) ∙ s .size i l ∙ ap (λ (p : ℕ). a p .size) (sym (kept live k q i l))
 
@@ -171,11 +153,32 @@ module _ (a : ℕ → Amount) (live sizes : List ℕ) (minus : List Bool) where
   pub listed-all : (width q k : ℕ) → q ≤ width → width ≤ q → Listed a q live sizes minus k → Listed a width live sizes minus k
   listed-all width q k l m s = let e : q ≡ width = omega arith in rw e at s
 
--- place q, the r-th of source i, listed with the amount that its numbers tell
-pub listed-next : (direct moved : List ℕ) (from i r q next : ℕ) {k k′ size : ℕ} {sign : Bool} {live sizes live′ sizes′ : List ℕ} {minus minus′ : List Bool} → r < 4 → q ≡ i * 4 + r → next ≡ q + 1
-    → ((a : ℕ → Amount) → Listed a q live sizes minus k → size ≡ a q .size → sign ≡ a q .minus → Listed a (q + 1) live′ sizes′ minus′ k′)
-    → size ≡ amongFour (getD direct (from + i) 0) (getD moved (from + i) 0) r .size → sign ≡ amongFour (getD direct (from + i) 0) (getD moved (from + i) 0) r .minus
-    → Listed (amountAt direct moved from) q live sizes minus k → Listed (amountAt direct moved from) next live′ sizes′ minus′ k′
-listed-next direct moved from i r q next l z w pushed e f s =
-    let h = amount-at direct moved from i r q l z in
-    rw w (pushed (amountAt direct moved from) s (e ∙ sym (ap (λ (x : Amount). x .size) h)) (f ∙ sym (ap (λ (x : Amount). x .minus) h)))
+-- The items of one source.
+
+-- its amounts are those of the places from q on
+abbrev pub Items : (ℕ → Amount) → ℕ → Amounts → Type 0
+Items a q t = (k : ℕ) → k < pairWidth → (getD (t .sizes) k 0 ≡ a (q + k) .size) × (getD (t .minus) k false ≡ a (q + k) .minus)
+
+-- they may be listed
+pub record ItemsReady (q : ℕ) (t : Amounts) (live sizes : List ℕ) (minus : List Bool) (k : ℕ) : Type 0 where
+  pub a : ℕ → Amount
+  pub items : Items a q t
+  pub listed : Listed a q live sizes minus k
+  pub room : q + pairWidth ≤ rowWidth
+
+-- a number of each item in a list, read at an item's place
+pub item-read : {A : Type 0} (f : Item → A) (d : A) (k : ℕ) → k < pairWidth → getD (map f items) k d ≡ f (itemAt k)
+item-read f d zero l = refl
+item-read f d (suc zero) l = refl
+item-read f d (suc (suc zero)) l = refl
+item-read f d (suc (suc (suc zero))) l = refl
+item-read f d (suc (suc (suc (suc k)))) l = absurd (omega arith)
+
+-- what source i's entry tells
+pub items-told : (es : List Running) (kept : List ℕ) (from i : ℕ) (t : Amounts) → let told-here = told (stateAt es i) (getD kept (from + i) 0) in
+    t .sizes ≡ map (λ item. told-here item .size) items → t .minus ≡ map (λ item. told-here item .minus) items → Items (amountAt es kept from) (i * pairWidth) t
+items-told es kept from i t e f k l =
+    let h = amount-told es kept from i k l in (
+      ap (λ (xs : List ℕ). getD xs k 0) e ∙ item-read (λ item. told (stateAt es i) (getD kept (from + i) 0) item .size) 0 k l ∙ sym (ap (λ (x : Amount). x .size) h),
+      ap (λ (xs : List Bool). getD xs k false) f ∙ item-read (λ item. told (stateAt es i) (getD kept (from + i) 0) item .minus) false k l ∙ sym (ap (λ (x : Amount). x .minus) h),
+    )

@@ -2,7 +2,7 @@
 use mathlib.Core.Bool.{Bool, true, false}
 use mathlib.Core.List.{List}
 use mathlib.Core.Path.{_≡_, refl, _∙_}
-use Prim.Native.Nat.{ℕ, _+_, _-_, _≤_, _<_}
+use Prim.Native.Nat.{ℕ, _+_, _-_, _*_, _≤_, _<_}
 use native.Mathlib.Decide.{decLt}
 use native.Mathlib.Numerals.{add-one}
 use native.Mathlib.Omega.{arith}
@@ -12,7 +12,7 @@ use lib.Seq.{getD-set-same, getD-set-other}
 use Rattle.balance.specs.AnswerCells.{cellAt}
 use Rattle.laws.specs.Parts.{upTo-nothing}
 use Rattle.laws.specs.Sums.{below-suc}
-use Rattle.members.specs.Live.{reached, Listed, reached-more, reached-most}
+use Rattle.members.specs.Live.{rowWidth, reached, Listed, reached-more, reached-most}
 use Rattle.rules.specs.Group.{Amount, signed, upTo}
 
 abbrev pub SizesSmall : ℕ → (ℕ → Amount) → Type 0
@@ -20,10 +20,10 @@ SizesSmall width a = (q : ℕ) → q < width → a q .size ≤ 100_000_000_000_0
 
 -- a member with whom the group's `count` members have `mwh` of its `total` MWh; `had` is what those before it have of each size
 pub record RowFits (at width total count mwh : ℕ) (a : ℕ → Amount) (had : List ℕ) (xs : List ℤ) : Type 0 where
-  pub narrow : width ≤ 128
-  pub low : at ≤ 4096
+  pub narrow : width ≤ rowWidth
+  pub low : at ≤ 32 * rowWidth
   pub room : at + width ≤ length xs
-  pub had-long : length had ≡ 128
+  pub had-long : length had ≡ rowWidth
   pub some : 0 < count
   pub mwh-small : mwh ≤ 64_000
   pub part : mwh ≤ total

@@ -14,15 +14,15 @@ use Rattle.rules.specs.Hour.{member, scheduled, counted, share}
 use Rattle.rules.specs.Sequences.{noDelivery}
 use Rattle.rules.specs.Words.{sumTo}
 use Rattle.rules.specs.declared.Hour.{Hour}
-use Rattle.rules.specs.declared.InternalSequence.{InternalSequence}
+use Rattle.rules.specs.declared.Key.{Key}
 
 -- a member of group x has what is more with it
-pub member-share : (h : Hour) (ns : List InternalSequence) (x : InternalSequence) (a : Amount) (j : ℕ) → member ns x j ≡ true →
-    let total = scheduled h ns x (h .ndeliveries) in
-    share h ns x a j ≡ signed (a .minus)
-    (upTo total (a .size) (counted ns x j + 1) (scheduled h ns x j + getD (h .deliveries) j noDelivery .mwh) - upTo total (a .size) (counted ns x j) (scheduled h ns x j))
+pub member-share : (h : Hour) (ks : List Key) (x : Key) (a : Amount) (j : ℕ) → member ks x j ≡ true →
+    let total = scheduled h ks x (h .ndeliveries) in
+    share h ks x a j ≡ signed (a .minus)
+    (upTo total (a .size) (counted ks x j + 1) (scheduled h ks x j + getD (h .deliveries) j noDelivery .mwh) - upTo total (a .size) (counted ks x j) (scheduled h ks x j))
 unfolding share sumTo
-member-share h ns x a j e = rw e
+member-share h ks x a j e = rw e
 
 -- Signed numbers.
 

@@ -1,34 +1,48 @@
 // The members of a group: its MWh, its first member, and the members' shares of what it takes, written into the hour's cells.
-// The contracts cite `upTo` of rules' Group and specs/, which has them in the hour's words; amounts are read from the rows that `amounts` keeps.
+// The contracts cite `upTo` of rules' Group and specs/, which has them in the hour's words; a group's amounts are told by its row of the table that `moves` keeps.
 mod shares;
 
-use rules::InternalSequence;
-ghost use mathlib.Core.Bool.{false};
+use moves::Amounts;
+use rules::Delivery;
+use rules::Key;
+use rules::Running;
 ghost use mathlib.Core.Path.{_≡_};
 ghost use Prim.Native.Nat.{ℕ, _+_, _*_, _≤_, _<_};
 ghost use lib.ListN.{length};
 ghost use Rattle.rules.specs.Group.{Amount, upTo};
-ghost use Rattle.rules.specs.Hour.{counted, internalAt};
+ghost use Rattle.rules.specs.Hour.{counted, keyAt, pairWidth};
+ghost use Rattle.members.specs.MwhsListed.{Mwhs};
 ghost use Rattle.members.specs.Leads.{Lead, AllGiven, AllShared};
-ghost use Rattle.members.specs.Live.{amountAt, Listed};
+ghost use Rattle.members.specs.Live.{rowWidth, Listed, Items, ItemsReady};
 ghost use Rattle.members.specs.Rows.{RowReady, RowFits, Row};
-ghost use Rattle.members.specs.Members.{MwhsSmall, scheduledIn, RowsGiven, RowsWritten};
+ghost use Rattle.members.specs.Members.{MwhsSmall, scheduledIn, RowsGiven, RowsReady, RowsWritten};
+
+// A row's cells: a pair's, of each of 32 sources.
+const ROW_CELLS: usize = 32 * moves::PAIR_CELLS;
+
+// The deliveries' MWh in a table.
+pub fn list_mwhs(ts: [Delivery; 32], n: usize, mwhs: &mut [u64; 32])
+    requires { ⌜ (n ≤ 32) × (length (now mwhs) ≡ 32) ⌝ }
+    ensures { λ _. ⌜ Mwhs ts n (now (mwhs .exit)) ⌝ }
+{
+    let mut j = 0;
+    while j < n {
+        let t = ts[j];
+        mwhs[j] = t.mwh as u64;
+        j += 1;
+    }
+}
 
 // The group's MWh.
-pub fn total_of(
-    mwhs: &[u64; 32],
-    n: usize,
-    numbers: [InternalSequence; 32],
-    number: InternalSequence,
-) -> u64
+pub fn total_of(mwhs: &[u64; 32], n: usize, keys: [Key; 32], key: Key) -> u64
     requires { ⌜ MwhsSmall (now mwhs) n ⌝ }
-    ensures { λ r. ⌜ (r ≡ scheduledIn (now (mwhs .entry)) numbers number n) × (r ≤ 64_000) ⌝ }
+    ensures { λ r. ⌜ (r ≡ scheduledIn (now (mwhs .entry)) keys key n) × (r ≤ 64_000) ⌝ }
 {
     let mut sum: u64 = 0;
     let mut j = 0;
     while j < n {
-        let x = numbers[j];
-        if sequence::same_number(x, number) {
+        let x = keys[j];
+        if sequence::same_key(x, key) {
             sum += mwhs[j];
         }
         j += 1;
@@ -37,14 +51,14 @@ pub fn total_of(
 }
 
 // The group's first member in deck order.
-pub fn lead_of(numbers: [InternalSequence; 32], n: usize, number: InternalSequence) -> usize
-    requires { ⌜ (n ≤ 32) × (0 < counted numbers number n) ⌝ }
-    ensures { λ r. ⌜ Lead numbers n number r ⌝ }
+pub fn lead_of(keys: [Key; 32], n: usize, key: Key) -> usize
+    requires { ⌜ (n ≤ 32) × (0 < counted keys key n) ⌝ }
+    ensures { λ r. ⌜ Lead keys n key r ⌝ }
 {
     let mut j = 0;
     while j < n {
-        let x = numbers[j];
-        if sequence::same_number(x, number) {
+        let x = keys[j];
+        if sequence::same_key(x, key) {
             return j;
         }
         j += 1;
@@ -54,15 +68,15 @@ pub fn lead_of(numbers: [InternalSequence; 32], n: usize, number: InternalSequen
 
 // The amount of place q, listed after the k before it where its size is not 0; how many are listed then.
 fn push(
-    live: &mut [usize; 128],
-    sizes: &mut [u64; 128],
-    minus: &mut [bool; 128],
+    live: &mut [usize; ROW_CELLS],
+    sizes: &mut [u64; ROW_CELLS],
+    minus: &mut [bool; ROW_CELLS],
     k: usize,
     q: usize,
     size: u64,
     sign: bool,
 ) -> usize
-    requires { ⌜ (q < 128) × (k ≤ q) × (length (now live) ≡ 128) × (length (now sizes) ≡ 128) × (length (now minus) ≡ 128) ⌝ }
+    requires { ⌜ (q < rowWidth) × (k ≤ q) × (length (now live) ≡ rowWidth) × (length (now sizes) ≡ rowWidth) × (length (now minus) ≡ rowWidth) ⌝ }
     ensures { λ r. ⌜ ((a : ℕ → Amount) → Listed a q (now (live .entry)) (now (sizes .entry)) (now (minus .entry)) k → size ≡ a q .size → sign ≡ a q .minus → Listed a (q + 1) (now (live .exit)) (now (sizes .exit)) (now (minus .exit)) r) ⌝ }
 {
     live[k] = q;
@@ -74,75 +88,27 @@ fn push(
     k
 }
 
-fn some(x: u64, y: u64) -> bool
-    ensures { λ r. ⌜ (r ≡ false → (x ≡ 0) × (y ≡ 0)) ⌝ }
-{
-    if x != 0 {
-        return true;
-    }
-    y != 0
-}
-
-// The places of a row of n sources whose size is not 0, with their amounts, and how many.
-fn list_live(
-    live: &mut [usize; 128],
-    sizes: &mut [u64; 128],
-    minus: &mut [bool; 128],
-    direct: &[u64; 1024],
-    moved: &[u64; 1024],
-    from: usize,
-    n: usize,
+// One source's amounts, item by item, from place q on.
+fn push_items(
+    live: &mut [usize; ROW_CELLS],
+    sizes: &mut [u64; ROW_CELLS],
+    minus: &mut [bool; ROW_CELLS],
+    k: usize,
+    q: usize,
+    amounts: Amounts,
 ) -> usize
-    requires { ⌜ (n ≤ 32) × (from + n ≤ 1024) × (length (now live) ≡ 128) × (length (now sizes) ≡ 128) × (length (now minus) ≡ 128) ⌝ }
-    ensures { λ r. ⌜ Listed (amountAt (now (direct .entry)) (now (moved .entry)) from) (n * 4) (now (live .exit)) (now (sizes .exit)) (now (minus .exit)) r ⌝ }
+    requires { ⌜ ItemsReady q amounts (now live) (now sizes) (now minus) k ⌝ }
+    ensures { λ r. ⌜ ((a : ℕ → Amount) → Items a q amounts → Listed a q (now (live .entry)) (now (sizes .entry)) (now (minus .entry)) k → Listed a (q + pairWidth) (now (live .exit)) (now (sizes .exit)) (now (minus .exit)) r) ⌝ }
 {
-    let mut k = 0;
-    let mut i = 0;
-    while i < n {
-        let d = direct[from + i];
-        let m = moved[from + i];
-        if some(d, m) {
-            let q = i * 4;
-            k = push(
-                live,
-                sizes,
-                minus,
-                k,
-                q,
-                amounts::mwh_of(d),
-                amounts::mwh_minus(d),
-            );
-            k = push(
-                live,
-                sizes,
-                minus,
-                k,
-                q + 1,
-                amounts::mwh_of(m),
-                amounts::mwh_minus(m),
-            );
-            k = push(
-                live,
-                sizes,
-                minus,
-                k,
-                q + 2,
-                amounts::cost_of(d),
-                amounts::cost_minus(d),
-            );
-            k = push(
-                live,
-                sizes,
-                minus,
-                k,
-                q + 3,
-                amounts::cost_of(m),
-                amounts::cost_minus(m),
-            );
-        }
-        i += 1;
+    let mut places = k;
+    let mut item = 0;
+    while item < moves::PAIR_CELLS {
+        let size = amounts.sizes[item];
+        let sign = amounts.minus[item];
+        places = push(live, sizes, minus, places, q + item, size, sign);
+        item += 1;
     }
-    k
+    places
 }
 
 // What the members so far have of a size; with all of the group's MWh, all of it.
@@ -161,11 +127,11 @@ fn share_row(
     cells: &mut [i64],
     at: usize,
     width: usize,
-    live: &[usize; 128],
+    live: &[usize; ROW_CELLS],
     places: usize,
-    sizes: &[u64; 128],
-    minus: &[bool; 128],
-    had: &mut [u64; 128],
+    sizes: &[u64; ROW_CELLS],
+    minus: &[bool; ROW_CELLS],
+    had: &mut [u64; ROW_CELLS],
     total: u64,
     count: u64,
     mwh: u64,
@@ -183,52 +149,41 @@ fn share_row(
     }
 }
 
-// The rows of one group's members in deck order, where 0 stood; each has four places a source. The group's first member leads it.
+// The rows of one group's members in deck order, where 0 stood, at the listed places. The group's first member leads it.
 fn share_rows(
     cells: &mut [i64],
-    sources: usize,
+    width: usize,
     n: usize,
     mwhs: &[u64; 32],
-    numbers: [InternalSequence; 32],
+    keys: [Key; 32],
     lead: usize,
     total: u64,
-    direct: &[u64; 1024],
-    moved: &[u64; 1024],
+    live: &[usize; ROW_CELLS],
+    places: usize,
+    sizes: &[u64; ROW_CELLS],
+    minus: &[bool; ROW_CELLS],
 )
-    requires { ⌜ (lead < 32) × (sources ≤ 32) × RowsGiven (sources * 4) n (now mwhs) numbers (internalAt numbers lead) total (amountAt (now direct) (now moved) (lead * 32)) (now cells) ⌝ }
-    ensures { λ _. ⌜ RowsWritten (sources * 4) n (now (mwhs .entry)) numbers (internalAt numbers lead) total (amountAt (now (direct .entry)) (now (moved .entry)) (lead * 32)) (now (cells .entry)) (now (cells .exit)) ⌝ }
+    requires { ⌜ (lead < 32) × RowsReady width n (now mwhs) keys (keyAt keys lead) total (now live) (now sizes) (now minus) places (now cells) ⌝ }
+    ensures { λ _. ⌜ ((a : ℕ → Amount) → RowsGiven width n (now (mwhs .entry)) keys (keyAt keys lead) total a (now (cells .entry)) → Listed a width (now (live .entry)) (now (sizes .entry)) (now (minus .entry)) places → RowsWritten width n (now (mwhs .entry)) keys (keyAt keys lead) total a (now (cells .entry)) (now (cells .exit))) ⌝ }
 {
-    let width = sources * 4;
-    let mut live: [usize; 128] = [0; 128];
-    let mut sizes: [u64; 128] = [0; 128];
-    let mut minus: [bool; 128] = [false; 128];
-    let places = list_live(
-        &mut live,
-        &mut sizes,
-        &mut minus,
-        direct,
-        moved,
-        lead * 32,
-        sources,
-    );
-    let mut had: [u64; 128] = [0; 128];
-    let number = numbers[lead];
+    let mut had: [u64; ROW_CELLS] = [0; ROW_CELLS];
+    let key = keys[lead];
     let mut count: u64 = 0;
     let mut mwh: u64 = 0;
     let mut j = 0;
     while j < n {
-        let x = numbers[j];
-        if sequence::same_number(x, number) {
+        let x = keys[j];
+        if sequence::same_key(x, key) {
             count += 1;
             mwh += mwhs[j];
             share_row(
                 cells,
                 j * width,
                 width,
-                &live,
+                live,
                 places,
-                &sizes,
-                &minus,
+                sizes,
+                minus,
                 &mut had,
                 total,
                 count,
@@ -239,25 +194,54 @@ fn share_rows(
     }
 }
 
-// The rows of all groups. A delivery that leads one has one more than its MWh in led, the others have 0.
+// The rows of all groups, whose amounts the table of moves and the states at the hour's end tell. A delivery that leads a group has one more than its MWh in led, the others have 0.
+// The states are large, so their owner goes through them itself.
 pub fn share_all(
     cells: &mut [i64],
     sources: usize,
     n: usize,
     mwhs: &[u64; 32],
-    numbers: [InternalSequence; 32],
+    keys: [Key; 32],
     led: &[u64; 32],
-    direct: &[u64; 1024],
-    moved: &[u64; 1024],
+    states: [Running; 32],
+    kept: &[u64; 1024],
 )
-    requires { ⌜ AllGiven sources n (now mwhs) numbers (now led) (now direct) (now moved) (now cells) ⌝ }
-    ensures { λ _. ⌜ AllShared sources n (now (mwhs .entry)) numbers (now (led .entry)) (now (direct .entry)) (now (moved .entry)) (now (cells .entry)) (now (cells .exit)) ⌝ }
+    requires { ⌜ AllGiven sources n (now mwhs) keys (now led) states (now kept) (now cells) ⌝ }
+    ensures { λ _. ⌜ AllShared sources n (now (mwhs .entry)) keys (now (led .entry)) states (now (kept .entry)) (now (cells .entry)) (now (cells .exit)) ⌝ }
 {
+    let mut live: [usize; ROW_CELLS] = [0; ROW_CELLS];
+    let mut sizes: [u64; ROW_CELLS] = [0; ROW_CELLS];
+    let mut minus: [bool; ROW_CELLS] = [false; ROW_CELLS];
+    let width = sources * moves::PAIR_CELLS;
     let mut j = 0;
     while j < n {
         let t = led[j];
         if 0 < t {
-            share_rows(cells, sources, n, mwhs, numbers, j, t - 1, direct, moved);
+            let mut places = 0;
+            let mut i = 0;
+            while i < sources {
+                let x = kept[j * 32 + i];
+                if moves::has_moved(x) {
+                    let e = states[i];
+                    let q = i * moves::PAIR_CELLS;
+                    let amounts = moves::told(e, x);
+                    places = push_items(&mut live, &mut sizes, &mut minus, places, q, amounts);
+                }
+                i += 1;
+            }
+            share_rows(
+                cells,
+                width,
+                n,
+                mwhs,
+                keys,
+                j,
+                t - 1,
+                &live,
+                places,
+                &sizes,
+                &minus,
+            );
         }
         j += 1;
     }

@@ -1,4 +1,4 @@
--- What holds of every running state (`Sound`): its level is never below b, D is b·P/100 rounded down and at most b, and what was charged for D is W(D).
+-- What holds of every running state (`Sound`): its level is never below b, D is b·P/100 rounded down and at most b.
 -- An opened source has it, D lines keep it while the percents are at most 100, and so does any move of open energy within the room or upwards.
 use mathlib.Core.Bool.{Bool, true, false, _&&_}
 use mathlib.Core.List.{List}
@@ -14,7 +14,7 @@ use lib.Seq.{getD-set-same, getD-set-other, set-out}
 use Rattle.laws.specs.Choices.{true-not-false}
 use Rattle.laws.specs.Sums.{div-grows, part-most}
 use Rattle.merit.specs.ChangedFromB.{cost-grows, Starts, changed-over, changed-under, changed-zero}
-use Rattle.rules.specs.Group.{noRunning, noDirect, level, changed, basis, withBasic, renewed, directed, groupLine, groupLines, opened, withOpen, Rung, normal, oil, emergency, last, floor, room, lowered, raised}
+use Rattle.rules.specs.Group.{noRunning, noDirect, level, changed, charged, basis, withBasic, renewed, directed, groupLine, groupLines, opened, withOpen, Rung, normal, oil, emergency, last, floor, room, lowered, raised}
 use Rattle.rules.specs.Units.{cost, curveCost, movable}
 use Rattle.rules.specs.Words.{if_then_else_, sumTo}
 use Rattle.rules.specs.declared.Basis.{Basis}
@@ -27,7 +27,6 @@ pub record Sound (s : Running) : Type 0 where
   pub above : s .b ≤ level s
   pub share : s .d ≡ s .b * (s .percent) / 100
   pub part : s .d ≤ s .b
-  pub paid : s .paid ≡ changed s (s .d)
   pub unset : s .based ≡ false → (s .b ≡ 0) × (s .percent ≡ 0)
 
 pub opened-sound : (p : Plant) → Starts p → Sound (opened p)
@@ -37,37 +36,37 @@ opened-sound p z =
       above = omega arith;
       share = refl;
       part = omega arith;
-      paid = sym (changed-zero (opened p) z);
       unset = λ e. (refl, refl);
     }
 
 -- what was charged is at most W at the level
-pub paid-most : (s : Running) → Sound s → s .paid ≤ changed s (level s)
-paid-most s g = go (s .based) refl
+pub charged-most : (s : Running) → Sound s → charged s ≤ changed s (level s)
+charged-most s g = go (s .based) refl
   where
     z : changed s (s .b) ≤ changed s (level s)
     z = rw (changed-over s (g .starts) (s .b) (omega arith), changed-over s (g .starts) (level s) (g .above)) (cost-grows (s .plant) (s .b) (level s) (g .above))
 
-    go : (t : Bool) → s .based ≡ t → s .paid ≤ changed s (level s)
-    go true e = le-trans (omega (arith, g .paid, changed-under s e (s .d) (s .b) (g .part) (omega arith))) z
+    go : (t : Bool) → s .based ≡ t → charged s ≤ changed s (level s)
+    go true e = le-trans (changed-under s e (s .d) (s .b) (g .part) (omega arith)) z
     go false e =
         let d0 : s .d ≡ 0 = omega (arith, g .part, g .unset e .0) in
-        let p : s .paid ≡ 0 = g .paid ∙ ap (changed s) d0 ∙ changed-zero s (g .starts) in
+        let p : charged s ≡ 0 = ap (changed s) d0 ∙ changed-zero s (g .starts) in
         omega arith
 
 -- Direct.
 
--- what D lines do to a source: energy goes from v to D
+-- what D lines do to a source: energy goes from v to D, and b stays once it is set
 pub record Took (s t : Running) : Type 0 where
   pub plant : t .plant ≡ s .plant
   pub level : level t ≡ level s
   pub more : s .d ≤ t .d
-  pub charged : s .paid ≤ t .paid
+  pub charged : charged s ≤ charged t
+  pub stays : s .based ≡ true → (t .based ≡ true) × (t .b ≡ s .b)
   pub basic : t .b ≤ max (s .b) (s .v)
   pub sound : Sound t
 
 pub took-none : (s : Running) → Sound s → Took s s
-took-none s g = record { plant = refl; level = refl; more = omega arith; charged = omega arith; basic = omega arith; sound = g }
+took-none s g = record { plant = refl; level = refl; more = omega arith; charged = omega arith; stays = λ e. (e, refl); basic = omega arith; sound = g }
 
 pub took-then : (s t u : Running) → Took s t → Took t u → Took s u
 took-then s t u a b =
@@ -76,6 +75,7 @@ took-then s t u a b =
       level = b .level ∙ a .level;
       more = le-trans (a .more) (b .more);
       charged = le-trans (a .charged) (b .charged);
+      stays = λ e. (let x = a .stays e in let y = b .stays (x .0) in (y .0, y .1 ∙ x .1));
       basic = omega (arith, a .basic, b .basic, a .level, a .more);
       sound = b .sound;
     }
@@ -95,22 +95,22 @@ renewed-took s p g e l h =
     let f : s .b ≤ s .v + s .d = g .above in
     let k : s .d ≡ s .b * (s .percent) / 100 = g .share in
     let w : changed s (s .d) ≤ changed s (s .b * p / 100) = changed-under s e (s .d) (s .b * p / 100) (omega arith) c in
-    let q : s .paid + (changed s (s .b * p / 100) - changed s (s .d)) ≡ changed s (s .b * p / 100) = omega (arith, g .paid) in
     record {
       plant = refl;
       level = omega arith;
       more = omega arith;
-      charged = omega arith;
+      charged = w;
+      stays = λ z. (e, refl);
       basic = omega arith;
-      sound = record { starts = g .starts; above = omega arith; share = refl; part = c; paid = q; unset = λ z. true-not-false (sym e ∙ z) };
+      sound = record { starts = g .starts; above = omega arith; share = refl; part = c; unset = λ z. true-not-false (sym e ∙ z) };
     }
 
 -- b set where it is not
-based-took : (t : Bool) (p : Plant) (v d b c x : ℕ) (y : Basis) → let s : Running = record { plant = p; v = v; d = d; b = b; based = t; percent = c; paid = x } in
+based-took : (t : Bool) (p : Plant) (v d b c : ℕ) (y : Basis) → let s : Running = record { plant = p; v = v; d = d; b = b; based = t; percent = c } in
     Sound s → Took s (withBasic s y)
-based-took true p v d b c x y g = took-none _ g
-based-took false p v d b c x y g =
-    let s : Running = record { plant = p; v = v; d = d; b = b; based = false; percent = c; paid = x } in
+based-took true p v d b c y g = took-none _ g
+based-took false p v d b c y g =
+    let s : Running = record { plant = p; v = v; d = d; b = b; based = false; percent = c } in
     let n = g .unset refl in
     let l : d ≤ b = g .part in
     let d0 : d ≡ 0 = omega (arith, n .0) in
@@ -119,14 +119,14 @@ based-took false p v d b c x y g =
       plant = refl;
       level = refl;
       more = omega arith;
-      charged = omega arith;
+      charged = omega (arith, ap (changed s) d0 ∙ changed-zero s (g .starts));
+      stays = λ e. true-not-false (sym e);
       basic = omega arith;
       sound = record {
         starts = g .starts;
         above = omega arith;
         share = d0 ∙ sym z;
         part = omega arith;
-        paid = g .paid ∙ ap (changed s) d0 ∙ changed-zero s (g .starts) ∙ sym (changed-zero (withBasic s y) (g .starts)) ∙ ap (changed (withBasic s y)) (sym d0);
         unset = λ e. true-not-false e;
       };
     }
@@ -135,7 +135,7 @@ based-took false p v d b c x y g =
 pub directed-took : (s : Running) (line : Direct) → Sound s → s .percent + line .percent ≤ 100 → Took s (directed s line)
 unfolding directed
 directed-took s line g h =
-    let a = based-took (s .based) (s .plant) (s .v) (s .d) (s .b) (s .percent) (s .paid) (line .basis) g in
+    let a = based-took (s .based) (s .plant) (s .v) (s .d) (s .b) (s .percent) (line .basis) g in
     took-then s (withBasic s (line .basis)) _ a (renewed-took (withBasic s (line .basis)) (s .percent + line .percent) (a .sound) refl (omega arith) h)
 
 -- Of all sources.
@@ -145,7 +145,7 @@ stateAt ss i = getD ss i noRunning
 
 pub blank-sound : Sound noRunning
 unfolding changed curveCost
-blank-sound = record { starts = refl; above = omega arith; share = refl; part = omega arith; paid = refl; unset = λ e. (refl, refl) }
+blank-sound = record { starts = refl; above = omega arith; share = refl; part = omega arith; unset = λ e. (refl, refl) }
 
 -- a list with one entry renewed, read anywhere
 read-set : (P : Running → Running → Type 0) (ss : List Running) (a : ℕ) (y : Running) (i : ℕ) → (i ≡ a → P (stateAt ss i) y) → P (stateAt ss i) (stateAt ss i) → P (stateAt ss i) (stateAt (set ss a y) i)
@@ -201,7 +201,7 @@ pub record Moved (s u : Running) : Type 0 where
 
 open-sound : (s : Running) (v : ℕ) → Sound s → s .b ≤ v + s .d → Sound (withOpen s v)
 unfolding changed
-open-sound s v g h = record { starts = g .starts; above = h; share = g .share; part = g .part; paid = g .paid; unset = g .unset }
+open-sound s v g h = record { starts = g .starts; above = h; share = g .share; part = g .part; unset = g .unset }
 
 pub moved-sound : (s u : Running) → Sound s → Moved s u → Sound u
 moved-sound s u g m = rw (m .is) (open-sound s (m .v) g (m .above))

@@ -10,7 +10,7 @@ use Rattle.laws.specs.Sums.{part-most}
 use Rattle.merit.specs.ChangedFromB.{cost-grows, changed-is}
 use Rattle.merit.specs.LevelNeverBelowB.{Sound, Took}
 use Rattle.merit.specs.RemainderMoves.{Shift, down, up}
-use Rattle.rules.specs.Group.{level, changed, opened, headroom, headroomOf}
+use Rattle.rules.specs.Group.{level, changed, charged, opened, headroom, headroomOf}
 use Rattle.rules.specs.Units.{curveCost, cost, generation}
 use Rattle.rules.specs.Words.{if_then_else_}
 use Rattle.rules.specs.declared.HeatCurve.{HeatCurve}
@@ -68,8 +68,8 @@ changed-small s l m h = rw (changed-is s m) (go (s .based) (leb m (s .b)) refl)
     go true false e = cost-small (s .plant) (l .plant) m h
     go false y e = cost-small (s .plant) (l .plant) m h
 
-pub paid-small : (s : Running) → Sound s → Small s → s .paid ≤ 100_000_000_000_000
-paid-small s g l = omega (arith, g .paid, changed-small s l (s .d) (omega (arith, g .part, l .b)))
+pub charged-small : (s : Running) → Sound s → Small s → charged s ≤ 100_000_000_000_000
+charged-small s g l = changed-small s l (s .d) (omega (arith, g .part, l .b))
 
 pub opened-small : (p : Plant) → PlantSmall p → Small (opened p)
 opened-small p l = record { plant = l; v = go p l; b = omega arith }

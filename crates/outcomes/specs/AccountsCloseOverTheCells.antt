@@ -19,12 +19,12 @@ use Rattle.laws.specs.Choices.{not-false, refuse-passed}
 use Rattle.laws.specs.Signed.{sumℤ, sumℤ-same}
 use Rattle.rules.specs.Calls as calls
 use Rattle.rules.specs.Calls.{reconstruction, leaves}
-use Rattle.rules.specs.Hour.{cellCount, answer}
+use Rattle.rules.specs.Hour.{pairWidth, cellCount, answer}
 use Rattle.rules.specs.Refusals.{Outcome, accepted, refuse}
 use Rattle.rules.specs.Writing.{valid}
 use Rattle.rules.specs.declared.Hour.{Hour}
 use Rattle.rules.specs.declared.Refusal.the-variants.{Short, NoDeck}
-use Rattle.reconstruct.specs.WholeAnswer.{count-few}
+use Rattle.balance.specs.CellsAreFew.{count-few}
 
 -- an hour whose reconstruction is accepted: a valid one, whose answer are these cells
 pub record Whole (h : Hour) (xs : List ℤ) : Type 0 where
@@ -33,7 +33,7 @@ pub record Whole (h : Hour) (xs : List ℤ) : Type 0 where
   pub few : length xs ≤ 4160
 
 pub accepted-whole : (h : Hour) (size : ℕ) (xs : List ℤ) → reconstruction h size ≡ accepted xs → Whole h xs
-unfolding calls.reconstruction
+unfolding calls.reconstruction calls.cellsFor
 accepted-whole h size xs e =
     let a = refuse-passed (not (valid h)) NoDeck (refuse (ltb size (cellCount h)) Short (answer h)) xs e in
     let b = refuse-passed (ltb size (cellCount h)) Short (answer h) xs (a .1) in
@@ -47,7 +47,7 @@ module _ (h : Hour) (xs ys : List ℤ) (long : length xs ≡ cellCount h) where
 
   pair : (j i k : ℕ) → j < h .ndeliveries → i < h .nsources → k < 4 → cellAt (xs ++ ys) (pairPlace h j i k) ≡ cellAt xs (pairPlace h j i k)
   pair j i k a b c =
-      let rows : suc j * (h .nsources * 4) ≤ h .ndeliveries * (h .nsources * 4) = mul-le-mul-right (h .nsources * 4) a in
+      let rows : suc j * (h .nsources * pairWidth) ≤ h .ndeliveries * (h .nsources * pairWidth) = mul-le-mul-right (h .nsources * pairWidth) a in
       first (pairPlace h j i k) (omega arith)
 
   -- two columns of a source's cells

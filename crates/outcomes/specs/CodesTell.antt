@@ -1,17 +1,19 @@
 -- The one number that a call for C gives back for a refusal tells the refusal's number and its place: no deck's refusal has a place above 99, and no
 -- reconstruction's one above 999.
 --     deck-told, cells-told
-use mathlib.Core.Bool.{Bool, true, false, not, _&&_}
-use mathlib.Core.List.{List}
+use mathlib.Core.Bool.{Bool, true, false, not, _&&_, _||_}
+use mathlib.Core.List.{List, [], _∷_}
 use mathlib.Core.Option.{Option, none, some}
-use mathlib.Core.Path.{_≡_, refl}
+use mathlib.Core.Path.{_≡_, refl, sym, ap, _∙_}
 use Prim.Native.Nat.{ℕ, zero, suc, _+_, _-_, _/_, _%_, _≤_}
 use native.Mathlib.Omega.{arith}
-use borrow.Author.Tests.{leb-false}
+use borrow.Author.Tests.{leb-false, not-false}
 use lib.Dec.{eqb, leb, ltb}
 use lib.ListN.{length}
+use Rattle.balance.specs.EveryGroupIsDone.{every-number-is-low}
 use Rattle.balance.specs.RefusedExactly.{unload-refused, credit-refused}
 use Rattle.refusals.specs.Codes.{codeOf}
+use Rattle.laws.specs.Keys.{key-itself, among, among-turns, among-found}
 use Rattle.laws.specs.Lists.{findTo-passes}
 use Rattle.rules.specs.Calls as calls
 use Rattle.rules.specs.Calls.{reconstruction}
@@ -19,7 +21,7 @@ use Rattle.rules.specs.Fields.{Chars, Field, got, malformed}
 use Rattle.rules.specs.Group as groupRules
 use Rattle.rules.specs.Group.{groupLines, remainder, unload, credit}
 use Rattle.rules.specs.Hour as hours
-use Rattle.rules.specs.Hour.{Progress, cellCount, cellsOf, counted, group, groups, member, numbers, rest, scheduled, shared, tookAll, descending}
+use Rattle.rules.specs.Hour.{Progress, cellCount, cellsOf, group, groups, opening, keys, member, sameKey, scheduled, shared, tookAll, turns}
 use Rattle.rules.specs.Lines.{Fields, H, U, P, F, T, D, E, Letter, Line, fieldsOf, lineAt, ranged}
 use Rattle.rules.specs.Reading as readings
 use Rattle.rules.specs.Reading.{allPlaced, basisKept, belowHigh, delivered, deliveryNamed, deliveryTaken, deliveryUsed, directTaken, finished, generated, headed, headedAs, isEnd, lineNumber, linesFrom, named, onLine, percentsOf, reading, sourceTaken, sourceUsed, taken, takenAs, turn, unitNamed, unplaced}
@@ -33,6 +35,7 @@ use Rattle.rules.specs.declared.Basis.{Basis}
 use Rattle.rules.specs.declared.Delivery.{Delivery}
 use Rattle.rules.specs.declared.Hour.{Hour}
 use Rattle.rules.specs.declared.InternalSequence.{InternalSequence}
+use Rattle.rules.specs.declared.Key.{Key}
 use Rattle.rules.specs.declared.Label.{Label}
 use Rattle.rules.specs.declared.Refusal.{Refusal}
 use Rattle.rules.specs.declared.Refusal.the-variants.{TooLong, Form, Range, Full, Used, Levels, Names, OtherBasis, Percents, Overdrawn, Unplaced, NoRoom, NoHeadroom, Short, NoDeck}
@@ -178,24 +181,39 @@ remainder-told number n total took ss l = go (leb took total)
     go true = unload-told number n ss (total - took) l _ refl
     go false = credit-told number n ss (took - total) l _ refl
 
-groups-told : (h : Hour) (ns : List InternalSequence) (k : ℕ) → Gone (groups h ns k)
-unfolding hours.groups hours.group hours.rest
-groups-told h ns zero = tt
-groups-told h ns (suc k) = then-told 999 Any Any (groups h ns k) (group h ns (descending k)) (groups-told h ns k) (λ p t. go p (eqb (counted ns (descending k) (h .ndeliveries)) 0))
+group-told : (h : Hour) (ks : List Key) (x : Key) (p : Progress) → x .number .0 ≤ 999 → Gone (group h ks x p)
+unfolding hours.group hours.rest
+group-told h ks x p l =
+    let ts = groupLines (member ks x) (h .directs) (p .states) (h .ndirects) in
+    then-told 999 Any Any (remainder (x .number) (h .nsources) (scheduled h ks x (h .ndeliveries)) (tookAll (h .nsources) (p .states) ts) ts)
+    (λ us. accepted (record { states = us; cells = shared h ks x (p .states) ts us (p .cells) }))
+    (remainder-told (x .number) _ _ _ _ l) (λ us t. tt)
+
+groups-told : (h : Hour) (ks xs : List Key) (p : Progress) → ((y : Key) → among xs y ≡ true → y .number .0 ≤ 999) → Gone (groups h ks xs p)
+unfolding hours.groups
+groups-told h ks [] p low = tt
+groups-told h ks (x ∷ xs) p low =
+    then-told 999 Any Any (group h ks x p) (groups h ks xs) (group-told h ks x p (low x (ap (λ (b : Bool). b || among xs x) (key-itself x))))
+    (λ q t. groups-told h ks xs q (λ y e. low y (late (sameKey y x) (among xs y) e)))
   where
-    go : (p : Progress) (b : Bool) → Gone (if b then accepted p else rest h ns (descending k) (p .states) (groupLines (member ns (descending k)) (h .directs) (p .states) (h .ndirects)) (p .cells))
-    go p true = tt
-    go p false =
-        let ts = groupLines (member ns (descending k)) (h .directs) (p .states) (h .ndirects) in
-        then-told 999 Any Any (remainder (descending k) (h .nsources) (scheduled h ns (descending k) (h .ndeliveries)) (tookAll (h .nsources) (p .states) ts) ts)
-        (λ us. accepted (record { states = us; cells = shared h ns (descending k) (p .states) ts us (p .cells) }))
-        (remainder-told (descending k) _ _ _ _ (omega arith)) (λ us t. tt)
+    late : (a b : Bool) → b ≡ true → (a || b) ≡ true
+    late true b e = refl
+    late false b e = e
+
+-- a key among the turns is a delivery's
+turn-low : (h : Hour) → valid h ≡ true → (y : Key) → among (turns (keys h)) y ≡ true → y .number .0 ≤ 999
+turn-low h v y e =
+    let f = among-found (keys h) y (sym (among-turns (keys h) y) ∙ e) in
+    let l = every-number-is-low h v (f .at) in
+    let g = ap (λ (k : Key). k .number .0) (f .is) in
+    omega arith
 
 reconstruction-told : (h : Hour) (size : ℕ) → Gone (reconstruction h size)
-unfolding calls.reconstruction hours.answer hours.reconstructed
+unfolding calls.reconstruction calls.cellsFor hours.answer hours.reconstructed
 reconstruction-told h size =
     refuse-told 999 Any (not (valid h)) NoDeck _ (omega arith) λ a. refuse-told 999 Any (ltb size (cellCount h)) Short _ (omega arith) λ b.
-    then-told 999 Any Any (groups h (numbers h) 1000) (λ p. accepted (cellsOf h p)) (groups-told h (numbers h) 1000) (λ p t. tt)
+    then-told 999 Any Any (groups h (keys h) (turns (keys h)) (opening h)) (λ p. accepted (cellsOf h p))
+    (groups-told h (keys h) (turns (keys h)) (opening h) (turn-low h (not-false (valid h) a))) (λ p t. tt)
 
 -- What the code tells.
 

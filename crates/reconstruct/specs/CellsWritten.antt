@@ -1,6 +1,6 @@
 -- The cells of a whole run as a list: those of the pairs, and each source's open MWh and open cost put after them, are the answer's.
-use mathlib.Core.List.{List}
-use mathlib.Core.Path.{_≡_, refl, sym, _∙_}
+use mathlib.Core.List.{List, map}
+use mathlib.Core.Path.{_≡_, refl, sym, ap, _∙_}
 use Prim.Native.Nat.{ℕ, zero, suc, _+_, _-_, _*_, _≤_, _<_}
 use native.Mathlib.Decide.{decLt}
 use native.Mathlib.Nat.{le-refl, mul-le-mul}
@@ -11,72 +11,105 @@ use lib.ListN.{length, getD, set, take, length-set}
 use lib.Seq.{length-take-le, getD-take, getD-set-same, getD-set-other, ext-getD}
 use Rattle.balance.specs.AnswerCells.{cellAt, pairPlace, openPlace, pair-at, open-at, cells-length}
 use Rattle.laws.specs.Sums.{below-suc}
-use Rattle.members.specs.Shared.{placeOf, place-small, each-place, cellsIn}
+use Rattle.members.specs.Live.{rowWidth}
 use Rattle.merit.specs.LevelNeverBelowB.{stateAt}
 use Rattle.merit.specs.NumbersStaySmall.{level-small, changed-small}
-use Rattle.rules.specs.Group.{Item, directMwh, incrementalMwh, directCost, incrementalCost, openCost}
-use Rattle.rules.specs.Hour.{Cells, Progress, pairCells, openCells, cellsOf, cellCount}
+use Rattle.rules.specs.Group.{openCost, OpenItem, openMwh, openGrains, openAmount}
+use Rattle.rules.specs.Hour.{Cells, Progress, pairCells, openItems, openCells, cellsOf, pairWidth, openWidth, cellCount}
 use Rattle.rules.specs.declared.Hour.{Hour}
 use Rattle.rules.specs.declared.Running.{Running}
 use Rattle.ladder.specs.Ready.{Ready, AllReady}
 
 -- lent cells that have what a run has given
 pub record Held (h : Hour) (xs : List ℤ) (cells : Cells) : Type 0 where
-  pub at : (j i : ℕ) (item : Item) → j < h .ndeliveries → i < h .nsources → cellsIn h xs j i item ≡ cells j i item
+  pub at : (j i k : ℕ) → j < h .ndeliveries → i < h .nsources → k < pairWidth → cellAt xs (pairPlace h j i k) ≡ getD (pairCells cells j i) k (pos 0)
+
+-- One source's open amounts.
+
+pub record AmountsFit (at : ℕ) (amounts : List ℕ) (xs : List ℤ) : Type 0 where
+  pub low : at ≤ 32 * rowWidth + 32 * openWidth
+  pub room : at + openWidth ≤ length xs
+  pub small : (k : ℕ) → k < openWidth → getD amounts k 0 ≤ 100_000_000_000_000
+
+-- of xs, ys with the first n of them from a place on
+pub record AmountsPut (at : ℕ) (amounts : List ℕ) (n : ℕ) (xs ys : List ℤ) : Type 0 where
+  pub long : length ys ≡ length xs
+  pub before : (m : ℕ) → m < at → cellAt ys m ≡ cellAt xs m
+  pub inside : (k : ℕ) → k < n → cellAt ys (at + k) ≡ pos (getD amounts k 0)
+  pub beyond : (m : ℕ) → at + n ≤ m → cellAt ys m ≡ cellAt xs m
+
+module _ (at : ℕ) (amounts : List ℕ) (xs : List ℤ) where
+  pub amounts-none : AmountsPut at amounts 0 xs xs
+  amounts-none = record { long = refl; before = λ m l. refl; inside = λ k l. absurd (omega arith); beyond = λ m l. refl }
+
+  pub amounts-more : (n : ℕ) (ys : List ℤ) (z : ℤ) → at + n < length xs → AmountsPut at amounts n xs ys → z ≡ pos (getD amounts n 0) → AmountsPut at amounts (n + 1) xs (set ys (at + n) z)
+  amounts-more n ys z l p e = record {
+    long = length-set ys (at + n) z ∙ p .long;
+    before = λ m b. getD-set-other ys (at + n) m z (pos 0) (λ q. omega arith) ∙ p .before m b;
+    inside = rw (add-one n) (below-suc (λ k. cellAt (set ys (at + n) z) (at + k) ≡ pos (getD amounts k 0)) n
+        (λ k b. getD-set-other ys (at + n) (at + k) z (pos 0) (λ q. omega arith) ∙ p .inside k b)
+        (getD-set-same ys (at + n) z (pos 0) (omega (arith, p .long)) ∙ e));
+    beyond = λ m b. getD-set-other ys (at + n) m z (pos 0) (λ q. omega arith) ∙ p .beyond m (omega arith);
+  }
+
+  pub amounts-all : (n i : ℕ) (ys : List ℤ) → i ≤ n → n ≤ i → AmountsPut at amounts i xs ys → AmountsPut at amounts n xs ys
+  amounts-all n i ys a b p = let e : i ≡ n = omega arith in rw e at p
+
+-- what the open energy of a source costs fits a cell
+open-small : (s : Running) → Ready s → (item : OpenItem) → openAmount item s ≤ 100_000_000_000_000
+open-small s r openMwh = omega (arith, r .small .v)
+open-small s r openGrains = omega (arith, changed-small s (r .small) (s .d + s .v) (omega (arith, level-small s (r .sound) (r .small))))
+
+-- a number of each open item in a list, read at an item's place
+open-read : {A : Type 0} (f : OpenItem → A) (d : A) (P : A → Type 0) → ((item : OpenItem) → P (f item)) → (k : ℕ) → k < openWidth → P (getD (map f openItems) k d)
+open-read f d P h zero l = h openMwh
+open-read f d P h (suc zero) l = h openGrains
+open-read f d P h (suc (suc k)) l = absurd (omega arith)
+
+pub amounts-small : (s : Running) (amounts : List ℕ) → Ready s → amounts ≡ map (λ item. openAmount item s) openItems → (k : ℕ) → k < openWidth → getD amounts k 0 ≤ 100_000_000_000_000
+amounts-small s amounts r e k l = rw e (open-read (λ item. openAmount item s) 0 (λ x. x ≤ 100_000_000_000_000) (open-small s r) k l)
+
+same-cell : (ss : List Running) (i k : ℕ) → k < openWidth → pos (getD (map (λ item. openAmount item (stateAt ss i)) openItems) k 0) ≡ getD (openCells ss i) k (pos 0)
+same-cell ss i zero l = refl
+same-cell ss i (suc zero) l = refl
+same-cell ss i (suc (suc k)) l = absurd (omega arith)
+
+-- Each source's.
 
 -- where the open energy of n sources may be put
 pub record OpenFits (ss : List Running) (at n : ℕ) (xs : List ℤ) : Type 0 where
   pub ready : AllReady ss n
-  pub low : at ≤ 4096
-  pub room : at + n * 2 ≤ length xs
+  pub low : at ≤ 32 * rowWidth
+  pub room : at + n * openWidth ≤ length xs
 
--- of xs, ys with the open MWh and open cost of n sources from a place on
+-- of xs, ys with the open items of n sources from a place on
 pub record OpenPut (ss : List Running) (at n : ℕ) (xs ys : List ℤ) : Type 0 where
   pub long : length ys ≡ length xs
-  pub kept : (m : ℕ) → m < at → cellAt ys m ≡ cellAt xs m
-  pub mwh : (i : ℕ) → i < n → cellAt ys (at + i * 2) ≡ pos (stateAt ss i .v)
-  pub grains : (i : ℕ) → i < n → cellAt ys (at + i * 2 + 1) ≡ pos (openCost (stateAt ss i))
-  pub beyond : (m : ℕ) → at + n * 2 ≤ m → cellAt ys m ≡ cellAt xs m
-
--- what the open energy of a source costs fits a cell
-pub open-cost-small : (s : Running) → Ready s → openCost s ≤ 100_000_000_000_000
-open-cost-small s r = omega (arith, changed-small s (r .small) (s .d + s .v) (omega (arith, level-small s (r .sound) (r .small))))
-
--- two cells set at a place
-module _ (xs : List ℤ) (a : ℕ) (v c : ℤ) where
-  two-other : (m : ℕ) → (m ≡ a → ⊥) → (m ≡ a + 1 → ⊥) → cellAt (set (set xs a v) (a + 1) c) m ≡ cellAt xs m
-  two-other m f g = getD-set-other (set xs a v) (a + 1) m c (pos 0) g ∙ getD-set-other xs a m v (pos 0) f
-
-  two-first : a < length xs → cellAt (set (set xs a v) (a + 1) c) a ≡ v
-  two-first l = getD-set-other (set xs a v) (a + 1) a c (pos 0) (λ e. omega arith) ∙ getD-set-same xs a v (pos 0) l
-
-  two-second : a + 1 < length xs → cellAt (set (set xs a v) (a + 1) c) (a + 1) ≡ c
-  two-second l = getD-set-same (set xs a v) (a + 1) c (pos 0) (omega (arith, length-set xs a v))
+  pub before : (m : ℕ) → m < at → cellAt ys m ≡ cellAt xs m
+  pub inside : (i k : ℕ) → k < openWidth → i < n → cellAt ys (at + (i * openWidth + k)) ≡ getD (openCells ss i) k (pos 0)
+  pub beyond : (m : ℕ) → at + n * openWidth ≤ m → cellAt ys m ≡ cellAt xs m
 
 module _ (ss : List Running) (at : ℕ) (xs : List ℤ) where
   pub open-none : OpenPut ss at 0 xs xs
-  open-none = record { long = refl; kept = λ m l. refl; mwh = λ i l. absurd (omega arith); grains = λ i l. absurd (omega arith); beyond = λ m l. refl }
+  open-none = record { long = refl; before = λ m l. refl; inside = λ i k b l. absurd (omega arith); beyond = λ m l. refl }
 
-  pub open-more : (n : ℕ) (ys : List ℤ) (v c : ℤ) → at + n * 2 + 1 < length xs → OpenPut ss at n xs ys → v ≡ pos (stateAt ss n .v) → c ≡ pos (openCost (stateAt ss n)) →
-      OpenPut ss at (n + 1) xs (set (set ys (at + n * 2) v) (at + n * 2 + 1) c)
-  open-more n ys v c l p e f =
-      let a = at + n * 2 in
-      record {
-        long = length-set (set ys a v) (a + 1) c ∙ length-set ys a v ∙ p .long;
-        kept = λ m b. two-other ys a v c m (λ q. omega arith) (λ q. omega arith) ∙ p .kept m b;
-        mwh = rw (add-one n)
-            (below-suc (λ i. cellAt (set (set ys a v) (a + 1) c) (at + i * 2) ≡ pos (stateAt ss i .v)) n
-            (λ i b. two-other ys a v c (at + i * 2) (λ q. omega arith) (λ q. omega arith) ∙ p .mwh i b)
-            (two-first ys a v c (omega (arith, p .long)) ∙ e));
-        grains = rw (add-one n)
-            (below-suc (λ i. cellAt (set (set ys a v) (a + 1) c) (at + i * 2 + 1) ≡ pos (openCost (stateAt ss i))) n
-            (λ i b. two-other ys a v c (at + i * 2 + 1) (λ q. omega arith) (λ q. omega arith) ∙ p .grains i b)
-            (two-second ys a v c (omega (arith, p .long)) ∙ f));
-        beyond = λ m b. two-other ys a v c m (λ q. omega arith) (λ q. omega arith) ∙ p .beyond m (omega arith);
-      }
+  pub open-more : (n : ℕ) (amounts : List ℕ) (ys zs : List ℤ) → OpenPut ss at n xs ys → amounts ≡ map (λ item. openAmount item (stateAt ss n)) openItems → AmountsPut (at + n * openWidth) amounts openWidth ys zs → OpenPut ss at (n + 1) xs zs
+  open-more n amounts ys zs p e a = record {
+    long = a .long ∙ p .long;
+    before = λ m b. a .before m (omega arith) ∙ p .before m b;
+    inside = λ i k b l. below-suc (λ i. cellAt zs (at + (i * openWidth + k)) ≡ getD (openCells ss i) k (pos 0)) n
+        (λ i l. a .before (at + (i * openWidth + k)) (omega arith) ∙ p .inside i k b l)
+        (here k b) i (omega arith);
+    beyond = λ m b. a .beyond m (omega arith) ∙ p .beyond m (omega arith);
+  }
+    where
+      here : (k : ℕ) → k < openWidth → cellAt zs (at + (n * openWidth + k)) ≡ getD (openCells ss n) k (pos 0)
+      here k b =
+          let z : at + (n * openWidth + k) ≡ at + n * openWidth + k = omega arith in
+          ap (cellAt zs) z ∙ a .inside k b ∙ ap (λ (zs : List ℕ). pos (getD zs k 0)) e ∙ same-cell ss n k b
 
-  pub open-end : (n i : ℕ) (ys : List ℤ) → i ≤ n → n ≤ i → OpenPut ss at i xs ys → OpenPut ss at n xs ys
-  open-end n i ys a b p = let e : i ≡ n = omega arith in rw e at p
+  pub open-all : (n i : ℕ) (ys : List ℤ) → i ≤ n → n ≤ i → OpenPut ss at i xs ys → OpenPut ss at n xs ys
+  open-all n i ys a b p = let e : i ≡ n = omega arith in rw e at p
 
 -- what holds of each place of n pieces of length w
 pieces : (P : ℕ → Type 0) (w n : ℕ) → ((j r : ℕ) → j < n → r < w → P (j * w + r)) → (m : ℕ) → m < n * w → P m
@@ -86,42 +119,29 @@ pieces P w (suc n) f m l = elim (decLt m (n * w)) [
   | no a ↦ (let e : m ≡ n * w + (m - n * w) = omega arith in rw e (f n (m - n * w) (omega arith) (omega arith)))
 ]
 
-first-two : (P : ℕ → Type 0) → P 0 → P 1 → (k : ℕ) → k < 2 → P k
-first-two P a b zero l = a
-first-two P a b (suc zero) l = b
-first-two P a b (suc (suc k)) l = absurd (omega arith)
-
-pair-item : (cell : Cells) (j i : ℕ) (item : Item) → getD (pairCells cell j i) (placeOf item) (pos 0) ≡ cell j i item
-pair-item cell j i directMwh = refl
-pair-item cell j i incrementalMwh = refl
-pair-item cell j i directCost = refl
-pair-item cell j i incrementalCost = refl
-
-module _ (h : Hour) (p : Progress) (xs ys : List ℤ) (held : Held h xs (p .cells)) (put : OpenPut (p .states) (h .ndeliveries * (h .nsources * 4)) (h .nsources) xs ys) where
+module _ (h : Hour) (p : Progress) (xs ys : List ℤ) (held : Held h xs (p .cells)) (put : OpenPut (p .states) (h .ndeliveries * (h .nsources * pairWidth)) (h .nsources) xs ys) where
   Same : ℕ → Type 0
   Same m = cellAt ys m ≡ cellAt (cellsOf h p) m
 
-  pair-same : (j i : ℕ) (item : Item) → j < h .ndeliveries → i < h .nsources → Same (pairPlace h j i (placeOf item))
+  pair-same : (j i k : ℕ) → j < h .ndeliveries → i < h .nsources → k < pairWidth → Same (pairPlace h j i k)
   unfolding Same
-  pair-same j i item a b =
-      let row : suc j * (h .nsources * 4) ≤ h .ndeliveries * (h .nsources * 4) = mul-le-mul a (le-refl (h .nsources * 4)) in
-      let k = place-small item in
-      put .kept (pairPlace h j i (placeOf item)) (omega arith) ∙ held .at j i item a b ∙ sym (pair-at h p j i (placeOf item) a b k ∙ pair-item (p .cells) j i item)
+  pair-same j i k a b l =
+      let row : suc j * (h .nsources * pairWidth) ≤ h .ndeliveries * (h .nsources * pairWidth) = mul-le-mul a (le-refl (h .nsources * pairWidth)) in
+      put .before (pairPlace h j i k) (omega arith) ∙ held .at j i k a b l ∙ sym (pair-at h p j i k a b l)
 
-  open-same : (i : ℕ) → i < h .nsources → (k : ℕ) → k < 2 → Same (openPlace h i k)
+  open-same : (i k : ℕ) → i < h .nsources → k < openWidth → Same (openPlace h i k)
   unfolding Same
-  open-same i a k l =
-      first-two (λ x. cellAt ys (openPlace h i x) ≡ getD (openCells (p .states) i) x (pos 0)) (let e : openPlace h i 0 ≡ h .ndeliveries * (h .nsources * 4) + i * 2 = omega arith in rw e (put .mwh i a))
-      (let e : openPlace h i 1 ≡ h .ndeliveries * (h .nsources * 4) + i * 2 + 1 = omega arith in rw e (put .grains i a)) k l ∙
-      sym (open-at h p i k a l)
+  open-same i k a l = put .inside i k l a ∙ sym (open-at h p i k a l)
 
   every-same : (m : ℕ) → m < cellCount h → Same m
-  every-same m l = elim (decLt m (h .ndeliveries * (h .nsources * 4))) [
-    | yes a ↦ pieces Same (h .nsources * 4) (h .ndeliveries) (λ j r b c. each-place (λ x. Same (j * (h .nsources * 4) + x)) (h .nsources) (λ i item d. pair-same j i item b d) r c) m a
-    | no a ↦ (
-        let e : m ≡ h .ndeliveries * (h .nsources * 4) + (m - h .ndeliveries * (h .nsources * 4)) = omega arith in
-        rw e (pieces (λ x. Same (h .ndeliveries * (h .nsources * 4) + x)) 2 (h .nsources) (λ i k d e. open-same i d k e) (m - h .ndeliveries * (h .nsources * 4)) (omega arith)))
-  ]
+  every-same m l =
+      let pairs = h .ndeliveries * (h .nsources * pairWidth) in
+      elim (decLt m pairs) [
+        | yes a ↦ pieces Same (h .nsources * pairWidth) (h .ndeliveries) (λ j r b c. pieces (λ x. Same (j * (h .nsources * pairWidth) + x)) pairWidth (h .nsources) (λ i k d e. pair-same j i k b d e) r c) m a
+        | no a ↦ (
+            let e : m ≡ pairs + (m - pairs) = omega arith in
+            rw e (pieces (λ x. Same (pairs + x)) openWidth (h .nsources) open-same (m - pairs) (omega arith)))
+      ]
 
   pub cells-written : cellCount h ≤ length ys → take (cellCount h) ys ≡ cellsOf h p
   unfolding Same

@@ -1,6 +1,6 @@
--- What a reconstruction comes to: 15, then 14, then what the groups come to; and so what is answered and left in the lent cells.
+-- What the cells of a valid hour come to: 14, then what the groups come to; and so what is answered and left in the lent cells. Before them, 15.
 use mathlib.Core.Bool.{true, false}
-use mathlib.Core.List.{List, _++_}
+use mathlib.Core.List.{List, [], _++_}
 use mathlib.Core.Path.{_≡_, refl, sym, ap, _∙_}
 use Prim.Native.Nat.{ℕ, _+_, _*_, _≤_, _<_}
 use native.Mathlib.Nat.{mul-le-mul}
@@ -9,24 +9,28 @@ use borrow.Author.Tests.{lt-ltb, le-ltb}
 use lib.IntN.{ℤ, pos}
 use lib.ListN.{length, getD, take, drop, length-drop, take-append-drop}
 use lib.Seq.{getD-drop, ext-getD}
-use Rattle.balance.specs.EveryGroupIsDone.{every-group-is-done}
-use Rattle.amounts.specs.Amounts.{told}
+use Rattle.balance.specs.CellsAreFew.{cells-few, count-few}
 use Rattle.balance.specs.AnswerCells.{cellAt, cells-length}
 use Rattle.group.specs.declared.Settled.{Settled}
-use Rattle.laws.specs.Internal.{number-same, number-itself}
+use Rattle.laws.specs.Keys.{key-same, key-itself, among}
 use Rattle.members.specs.Leads.{AllGiven, AllShared, all-given, all-shared}
+use Rattle.members.specs.Live.{rowWidth, item-read}
 use Rattle.members.specs.Members.{MwhsOf}
+use Rattle.members.specs.MwhsListed.{Mwhs}
 use Rattle.members.specs.Shared.{DeliveriesSmall}
+use Rattle.merit.specs.LevelNeverBelowB.{stateAt}
+use Rattle.moves.specs.ToldIsTaken.{taken, itemAt, told-taken}
 use Rattle.reconstruct.specs.CellsCleared.{Cleared}
 use Rattle.reconstruct.specs.CellsWritten.{Held, OpenFits, OpenPut, cells-written}
 use Rattle.roundtrip.specs.GivenHour.{valid-given}
 use Rattle.rules.specs.Answers.{writtenOf}
-use Rattle.rules.specs.Calls.{reconstruction, leaves}
-use Rattle.rules.specs.Hour.{internalAt, numbers, share, Progress, groups, reconstructed, cellsOf, cellCount, answer}
+use Rattle.rules.specs.Calls.{cellsFor, reconstruction, leaves}
+use Rattle.rules.specs.Hour.{keyAt, keys, share, Progress, turns, groups, reconstructed, opening, cellsOf, pairWidth, openWidth, cellCount, answer}
+use Rattle.rules.specs.Group.{Amount}
 use Rattle.rules.specs.Refusals.{Outcome, accepted, refused, andThen}
 use Rattle.rules.specs.Writing.{valid}
 use Rattle.rules.specs.declared.Hour.{Hour}
-use Rattle.rules.specs.declared.InternalSequence.{InternalSequence}
+use Rattle.rules.specs.declared.Key.{Key}
 use Rattle.rules.specs.declared.Refusal.{Refusal}
 use Rattle.rules.specs.declared.Refusal.the-variants.{Short, NoDeck}
 use Rattle.rules.specs.declared.Verdict.the-variants.{Accepted, Refused as RefusedBy}
@@ -34,58 +38,61 @@ use Rattle.rules.specs.declared.Written.{Written}
 use Rattle.rules.specs.declared.Written.the-variants.{Count, Refused}
 use Rattle.sequence.specs.Placings.{Placeable, placings, placings-same}
 use Rattle.sequence.specs.SameGroups.{same-groups}
-use Rattle.groups.specs.GroupTurns.{Turned}
-use Rattle.groups.specs.GroupsOneByOne.{Reached}
-use Rattle.groups.specs.MwhsListed.{deliveries-small}
-use Rattle.groups.specs.StatesStayReady.{groups-stand}
+use Rattle.ladder.specs.Ready.{AllReady}
+use Rattle.groups.specs.GroupTurns.{KeysOf, Turned}
+use Rattle.groups.specs.GroupsOneByOne.{whole, Reached}
+use Rattle.groups.specs.MwhsListed.{hour-mwhs, deliveries-small}
 
 -- what is answered, and what is left of the lent cells
 abbrev pub Answers : Hour → List ℤ → Written → List ℤ → Type 0
-Answers h out r left = (r ≡ writtenOf (reconstruction h (length out))) × (left ≡ leaves (reconstruction h (length out)) out)
+Answers h out r left = (r ≡ writtenOf (cellsFor h (length out))) × (left ≡ leaves (cellsFor h (length out)) out)
+
+-- the same, with 15 before it
+abbrev pub AnswersAny : Hour → List ℤ → Written → List ℤ → Type 0
+AnswersAny h out r left = (r ≡ writtenOf (reconstruction h (length out))) × (left ≡ leaves (reconstruction h (length out)) out)
 
 module _ (h : Hour) (out : List ℤ) where
-  answers-refused : (y : Refusal) → reconstruction h (length out) ≡ refused y → Answers h out (Refused y) out
+  pub no-deck : valid h ≡ false → AnswersAny h out (Refused NoDeck) out
+  unfolding reconstruction
+  no-deck e = (rw e, rw e)
+
+  pub past-15 : (r : Written) (left : List ℤ) → valid h ≡ true → Answers h out r left → AnswersAny h out r left
+  unfolding reconstruction
+  past-15 r left v a = (rw v (a .0), rw v (a .1))
+
+  answers-refused : (y : Refusal) → cellsFor h (length out) ≡ refused y → Answers h out (Refused y) out
   answers-refused y e = (rw e, rw e)
 
-  pub no-deck : valid h ≡ false → Answers h out (Refused NoDeck) out
-  unfolding reconstruction
-  no-deck e = answers-refused NoDeck (rw e)
-
-  pub too-short : valid h ≡ true → length out < cellCount h → Answers h out (Refused Short) out
-  unfolding reconstruction
-  too-short v l = answers-refused Short (rw (v, lt-ltb (length out) (cellCount h) l))
+  pub too-short : length out < cellCount h → Answers h out (Refused Short) out
+  unfolding cellsFor
+  too-short l = answers-refused Short (rw (lt-ltb (length out) (cellCount h) l))
 
 module _ (h : Hour) (v : valid h ≡ true) where
-  -- the pairs' cells
-  pub cells-few : h .ndeliveries * (h .nsources * 4) ≤ 4096
-  cells-few =
-      let w : h .nsources * 4 ≤ 128 = omega (arith, valid-given h v .sources .few) in
-      mul-le-mul (valid-given h v .deliveries .few) w
-
-  pub count-few : cellCount h ≤ 4160
-  count-few = omega (arith, cells-few, valid-given h v .sources .few)
-
   pub placeable : Placeable (h .deliveries) (h .ndeliveries)
   placeable =
       let d = valid-given h v .deliveries in
       record { n-small = d .few; sequence = λ j l. d .entry j l .sequence .most; block = λ j l. omega (arith, d .entry j l .block .most) }
 
--- a whole run by the hour's numbers: what the groups came to, and the tables that they left
-pub record Ran (h : Hour) (ns : List InternalSequence) (r : Settled) (ms led direct moved : List ℕ) : Type 0 where
+-- the keys that were made are the hour's
+pub keys-of : (h : Hour) (ks : List Key) → ks ≡ placings (h .deliveries) (h .ndeliveries) → KeysOf h ks
+keys-of h ks e = record { same = λ j. ap (λ (xs : List Key). keyAt xs j) e ∙ placings-same h j }
+
+-- a whole run by the hour's keys: what the groups came to, and the table that they left
+pub record Ran (h : Hour) (ks : List Key) (r : Settled) (ms led kept : List ℕ) : Type 0 where
   pub valid : valid h ≡ true
-  pub placed : ns ≡ placings (h .deliveries) (h .ndeliveries)
-  pub turned : Turned h ns 0 r led direct moved
-  pub mwhs : MwhsOf h ms
+  pub placed : ks ≡ placings (h .deliveries) (h .ndeliveries)
+  pub turned : Turned h ks r led kept
+  pub listed : Mwhs (h .deliveries) (h .ndeliveries) ms
 
-module _ (h : Hour) (ns : List InternalSequence) (r : Settled) (ms led direct moved : List ℕ) (w : Ran h ns r ms led direct moved) where
-  same : (j : ℕ) → internalAt ns j ≡ internalAt (numbers h) j
-  same j = ap (λ (xs : List InternalSequence). internalAt xs j) (w .placed) ∙ placings-same h j
+module _ (h : Hour) (ks : List Key) (r : Settled) (ms led kept : List ℕ) (w : Ran h ks r ms led kept) where
+  same : (j : ℕ) → keyAt ks j ≡ keyAt (keys h) j
+  same = keys-of h ks (w .placed) .same
 
-  run-is : (size : ℕ) → cellCount h ≤ size → (o : Outcome Progress) → groups h ns 1000 ≡ o → reconstruction h size ≡ andThen o (λ p. accepted (cellsOf h p))
-  unfolding reconstruction answer reconstructed
+  run-is : (size : ℕ) → cellCount h ≤ size → (o : Outcome Progress) → whole h ks ≡ o → cellsFor h size ≡ andThen o (λ p. accepted (cellsOf h p))
+  unfolding cellsFor answer reconstructed
   run-is size l o f =
-      rw (w .valid, le-ltb size (cellCount h) l)
-      (ap (λ (q : Outcome Progress). andThen q (λ p. accepted (cellsOf h p))) (sym (same-groups h ns (numbers h) same 1000) ∙ f))
+      rw (le-ltb size (cellCount h) l)
+      (ap (λ (q : Outcome Progress). andThen q (λ p. accepted (cellsOf h p))) (sym (same-groups h ks (keys h) same (turns (keys h)) (opening h)) ∙ f))
 
   pub hour-refused : (out : List ℤ) (y : Refusal) → cellCount h ≤ length out → r .verdict ≡ RefusedBy y → Answers h out (Refused y) out
   hour-refused out y l q = answers-refused h out y (run-is (length out) l (refused y) (w .turned .ended y q))
@@ -93,37 +100,44 @@ module _ (h : Hour) (ns : List InternalSequence) (r : Settled) (ms led direct mo
   -- all groups are done: the pairs' cells are cleared, each member's are written, and the open cells after them
   module _ (q : r .verdict ≡ Accepted) where
     abbrev pairs : ℕ
-    pairs = h .ndeliveries * (h .nsources * 4)
+    pairs = h .ndeliveries * (h .nsources * pairWidth)
 
-    reached : Reached h ns 0 (r .states) led direct moved
+    reached : Reached h ks [] (r .states) led kept
     reached = w .turned .done q
+
+    -- no group is left
+    run-done : (p : Progress) → whole h ks ≡ groups h ks [] p → whole h ks ≡ accepted p
+    unfolding groups
+    run-done p e = e
 
     small : DeliveriesSmall h
     small = deliveries-small h (w .valid)
 
+    mwhs : MwhsOf h ms
+    mwhs = hour-mwhs h ms (w .listed)
+
+    ready : AllReady (r .states) (h .nsources)
+    ready = rw (reached .states) (reached .stands .ready)
+
     module _ (out xs : List ℤ) (l : cellCount h ≤ length out) (c : Cleared pairs out xs) where
-      pub shares-fit : AllGiven (h .nsources) (h .ndeliveries) ms ns led direct moved xs
+      pub shares-fit : AllGiven (h .nsources) (h .ndeliveries) ms ks led (r .states) kept xs
       shares-fit =
-          all-given h ms (w .mwhs) small ns led direct moved xs (valid-given h (w .valid) .sources .few) (omega (arith, c .long)) (c .zero) (reached .kept .leads)
+          all-given h ms mwhs small ks led (r .states) kept xs (valid-given h (w .valid) .sources .few) (omega (arith, c .long)) (c .zero) (reached .table .leads) (λ i. ready .ready i .small) (reached .table .low)
 
-      module _ (ys : List ℤ) (s : AllShared (h .nsources) (h .ndeliveries) ms ns led direct moved xs ys) where
+      module _ (ys : List ℤ) (s : AllShared (h .nsources) (h .ndeliveries) ms ks led (r .states) kept xs ys) where
         pub open-fits : OpenFits (r .states) pairs (h .nsources) ys
-        open-fits = record {
-          ready = rw (reached .states) (groups-stand h ns (w .valid) 1000 (omega arith) (reached .progress) (reached .run) .ready);
-          low = cells-few h (w .valid);
-          room = omega (arith, c .long, s .long);
-        }
+        open-fits = record { ready = ready; low = cells-few h (w .valid); room = omega (arith, c .long, s .long) }
 
-        -- each delivery's group is done, and its lead's row told what its cells are shares of
+        -- each delivery's group is done, and its lead's row tells what its cells are shares of
         held : Held h ys (reached .progress .cells)
         held = record {
-          at = λ j i item a b.
-              let o = reached .kept .owed j a (omega arith) (omega (arith, ap (λ (x : InternalSequence). x .0) (same j), every-group-is-done h (w .valid) j)) in
-              let e : internalAt ns (o .lead) ≡ internalAt ns j = number-same (internalAt ns (o .lead)) (internalAt ns j) (o .leads .number) in
-              let t = told (getD direct (o .lead * 32 + i) 0) (getD moved (o .lead * 32 + i) 0) item in
-              all-shared h ms (w .mwhs) small ns led direct moved xs ys s (o .lead) j i item (o .leads .within) (o .marked) a
-              (rw e (number-itself (internalAt ns j))) b ∙
-              ap (λ (x : InternalSequence). share h ns x t j) e ∙ sym (o .cell i item b);
+          at = λ j i k a b d.
+              let o = reached .table .owed j a refl in
+              let e : keyAt ks (o .lead) ≡ keyAt ks j = key-same (keyAt ks (o .lead)) (keyAt ks j) (o .leads .key) in
+              all-shared h ms mwhs small ks led (r .states) kept xs ys s (o .lead) j i k (o .leads .within) (o .marked) a (rw e (key-itself (keyAt ks j))) b d ∙
+              ap (λ (t : Amount). share h ks (keyAt ks (o .lead)) t j) (told-taken (o .runs i) (stateAt (r .states) i) (o .later i) _ (o .entries i b) (itemAt k)) ∙
+              ap (λ (x : Key). share h ks x (taken (o .ss) (o .ts) (o .us) i (itemAt k)) j) e ∙
+              sym (item-read (reached .progress .cells j i) (pos 0) k d ∙ o .cell i (itemAt k) b);
         }
 
         module _ (left : List ℤ) (put : OpenPut (r .states) pairs (h .nsources) ys left) where
@@ -142,5 +156,5 @@ module _ (h : Hour) (ns : List InternalSequence) (r : Settled) (ms led direct mo
           hour-done =
               let p = reached .progress in
               let cells : take (cellCount h) left ≡ cellsOf h p = cells-written h p ys left held (rw (reached .states) at put) (omega (arith, as-long)) in
-              rw (run-is (length out) l (accepted p) (reached .run), cells-length h p)
+              rw (run-is (length out) l (accepted p) (run-done p (reached .run)), cells-length h p)
               (refl, sym (take-append-drop (cellCount h) left) ∙ ap (λ (x : List ℤ). x ++ drop (cellCount h) left) cells ∙ ap (λ (x : List ℤ). cellsOf h p ++ x) rest-stays)

@@ -1,18 +1,29 @@
-// Document 01's whole hour: every group from the highest number down, by either engine, and the answer's cells into a lent buffer.
-// The promise cites rules' Calls: reconstruction, and leaves for the buffer; and Answers. The other contracts cite specs/.
-ghost use mathlib.Core.Path.{_≡_};
-ghost use Prim.Native.Nat.{_≤_};
-ghost use lib.IntN.{pos};
-ghost use lib.ListN.{length};
-ghost use Rattle.rules.specs.Answers.{writtenOf};
-ghost use Rattle.rules.specs.Calls.{reconstruction, leaves};
-ghost use Rattle.reconstruct.specs.CellsCleared.{Cleared};
-ghost use Rattle.reconstruct.specs.CellsWritten.{OpenFits, OpenPut};
+// Document 01's whole hour: every group in its turn, by either engine, and the answer's cells into a lent buffer.
+// The promise cites rules' Calls: reconstruction, cellsFor for the part below 15, and leaves for the buffer; and Answers. The other contracts cite specs/.
 use rules::Hour;
+use rules::Key;
 use rules::Refusal;
 use rules::Running;
 use rules::Verdict;
 use rules::Written;
+ghost use mathlib.Core.Bool.{true};
+ghost use mathlib.Core.List.{map};
+ghost use mathlib.Core.Path.{_≡_};
+ghost use Prim.Native.Nat.{_≤_};
+ghost use lib.IntN.{pos};
+ghost use lib.ListN.{length};
+ghost use Rattle.ladder.specs.Ready.{Ready};
+ghost use Rattle.rules.specs.Answers.{writtenOf};
+ghost use Rattle.rules.specs.Calls.{cellsFor, reconstruction, leaves};
+ghost use Rattle.rules.specs.Group.{openAmount};
+ghost use Rattle.rules.specs.Hour.{openItems, openWidth};
+ghost use Rattle.rules.specs.Writing.{valid};
+ghost use Rattle.sequence.specs.Placings.{placings};
+ghost use Rattle.reconstruct.specs.CellsCleared.{Cleared};
+ghost use Rattle.reconstruct.specs.CellsWritten.{AmountsFit, AmountsPut, OpenFits, OpenPut};
+
+// A source's open cells.
+const OPEN_CELLS: usize = 2;
 
 fn cell(x: u64) -> i64
     requires { ⌜ x ≤ 100_000_000_000_000 ⌝ }
@@ -21,7 +32,27 @@ fn cell(x: u64) -> i64
     x as i64
 }
 
-// Each source's open MWh and open cost, from a place on.
+// A source's open MWh and open cost, in the order of rules' open items.
+fn open_amounts(s: Running) -> [u64; OPEN_CELLS]
+    requires { ⌜ Ready s ⌝ }
+    ensures { λ r. ⌜ r ≡ map (λ item. openAmount item s) openItems ⌝ }
+{
+    [s.v as u64, curve::open_cost(s)]
+}
+
+// They are put from a place on.
+fn put_amounts(cells: &mut [i64], at: usize, amounts: [u64; OPEN_CELLS])
+    requires { ⌜ AmountsFit at amounts (now cells) ⌝ }
+    ensures { λ _. ⌜ AmountsPut at amounts openWidth (now (cells .entry)) (now (cells .exit)) ⌝ }
+{
+    let mut item = 0;
+    while item < OPEN_CELLS {
+        cells[at + item] = cell(amounts[item]);
+        item += 1;
+    }
+}
+
+// Each source's, from a place on.
 fn put_open(cells: &mut [i64], at: usize, states: [Running; 32], n: usize)
     requires { ⌜ OpenFits states at n (now cells) ⌝ }
     ensures { λ _. ⌜ OpenPut states at n (now (cells .entry)) (now (cells .exit)) ⌝ }
@@ -29,10 +60,8 @@ fn put_open(cells: &mut [i64], at: usize, states: [Running; 32], n: usize)
     let mut i = 0;
     while i < n {
         let s = states[i];
-        let grains = curve::open_cost(s);
-        let p = at + i * 2;
-        cells[p] = cell(s.v as u64);
-        cells[p + 1] = cell(grains);
+        let amounts = open_amounts(s);
+        put_amounts(cells, at + i * OPEN_CELLS, amounts);
         i += 1;
     }
 }
@@ -49,40 +78,31 @@ fn clear(cells: &mut [i64], n: usize)
     }
 }
 
-fn run(h: Hour, out: &mut [i64], by_price: bool) -> Written
-    ensures outcome { λ r. ⌜ r ≡ writtenOf (reconstruction h (length (now (out .entry)))) ⌝ }
-    ensures cells { λ _. ⌜ now (out .exit) ≡ leaves (reconstruction h (length (now (out .entry)))) (now (out .entry)) ⌝ }
+// The cells of a valid hour whose deliveries have these keys, by either engine: 14, then the first group that meets 12 or 13.
+pub fn fill(h: Hour, keys: [Key; 32], by_price: bool, out: &mut [i64]) -> Written
+    requires { ⌜ (valid h ≡ true) × (keys ≡ placings (h .deliveries) (h .ndeliveries)) ⌝ }
+    ensures outcome { λ r. ⌜ r ≡ writtenOf (cellsFor h (length (now (out .entry)))) ⌝ }
+    ensures cells { λ _. ⌜ now (out .exit) ≡ leaves (cellsFor h (length (now (out .entry)))) (now (out .entry)) ⌝ }
 {
-    if !record::valid(h) {
-        return Written::Refused(Refusal::NoDeck);
-    }
     let n = h.nsources;
-    let pairs = h.ndeliveries * (n * 4);
-    let count = pairs + n * 2;
+    let m = h.ndeliveries;
+    let pairs = m * (n * moves::PAIR_CELLS);
+    let count = pairs + n * OPEN_CELLS;
     if out.len() < count {
         return Written::Refused(Refusal::Short);
     }
     let deliveries = h.deliveries;
-    let placed = sequence::numbers(deliveries, h.ndeliveries);
     let mut mwhs: [u64; 32] = [0; 32];
+    members::list_mwhs(deliveries, m, &mut mwhs);
     let mut led: [u64; 32] = [0; 32];
-    let mut direct: [u64; 1024] = [0; 1024];
-    let mut moved: [u64; 1024] = [0; 1024];
-    let end = groups::take_turns(
-        h,
-        placed,
-        by_price,
-        &mut mwhs,
-        &mut led,
-        &mut direct,
-        &mut moved,
-    );
+    let mut kept: [u64; 1024] = [0; 1024];
+    let end = groups::take_turns(h, keys, by_price, &mwhs, &mut led, &mut kept);
     let verdict = end.verdict;
     match verdict {
         Verdict::Accepted => {
             let states = end.states;
             clear(out, pairs);
-            members::share_all(out, n, h.ndeliveries, &mwhs, placed, &led, &direct, &moved);
+            members::share_all(out, n, m, &mwhs, keys, &led, states, &kept);
             put_open(out, pairs, states, n);
             Written::Count(count)
         }
@@ -90,12 +110,26 @@ fn run(h: Hour, out: &mut [i64], by_price: bool) -> Written
     }
 }
 
+// The cells of a valid hour: of one that a deck gave.
+pub fn cells_of(h: Hour, by_price: bool, out: &mut [i64]) -> Written
+    requires { ⌜ valid h ≡ true ⌝ }
+    ensures outcome { λ r. ⌜ r ≡ writtenOf (cellsFor h (length (now (out .entry)))) ⌝ }
+    ensures cells { λ _. ⌜ now (out .exit) ≡ leaves (cellsFor h (length (now (out .entry)))) (now (out .entry)) ⌝ }
+{
+    let deliveries = h.deliveries;
+    let keys = sequence::keys(deliveries, h.ndeliveries);
+    fill(h, keys, by_price, out)
+}
+
 // By the plain rule, one MWh at a time.
 pub fn plain(h: Hour, out: &mut [i64]) -> Written
     ensures outcome { λ r. ⌜ r ≡ writtenOf (reconstruction h (length (now (out .entry)))) ⌝ }
     ensures cells { λ _. ⌜ now (out .exit) ≡ leaves (reconstruction h (length (now (out .entry)))) (now (out .entry)) ⌝ }
 {
-    run(h, out, false)
+    if !record::valid(h) {
+        return Written::Refused(Refusal::NoDeck);
+    }
+    cells_of(h, false, out)
 }
 
 // By a search for the price.
@@ -103,5 +137,8 @@ pub fn price(h: Hour, out: &mut [i64]) -> Written
     ensures outcome { λ r. ⌜ r ≡ writtenOf (reconstruction h (length (now (out .entry)))) ⌝ }
     ensures cells { λ _. ⌜ now (out .exit) ≡ leaves (reconstruction h (length (now (out .entry)))) (now (out .entry)) ⌝ }
 {
-    run(h, out, true)
+    if !record::valid(h) {
+        return Written::Refused(Refusal::NoDeck);
+    }
+    cells_of(h, true, out)
 }

@@ -23,12 +23,17 @@ writing h size =
     (refuse (ltb size (length (deckText h))) Short
     (accepted (deckText h)))
 
--- "Reconstruction: 15, then 14, then the first group that meets 12 or 13." Into a buffer of so many cells
+-- "14, then the first group that meets 12 or 13": of an hour that a deck gives. Into a buffer of so many cells
+unfoldable pub cellsFor : Hour → ℕ → Outcome (List ℤ)
+cellsFor h size =
+    refuse (ltb size (cellCount h)) Short
+    (answer h)
+
+-- "Reconstruction: 15, then 14, then the first group that meets 12 or 13."
 unfoldable pub reconstruction : Hour → ℕ → Outcome (List ℤ)
 reconstruction h size =
     refuse (not (valid h)) NoDeck
-    (refuse (ltb size (cellCount h)) Short
-    (answer h))
+    (cellsFor h size)
 
 -- the report of a deck, into a buffer of so many bytes
 unfoldable pub reporting : List ℕ → ℕ → Outcome (List ℕ)

@@ -27,11 +27,11 @@ abbrev pub noDirect : Direct
 noDirect = record { basis = Low; percent = 0; source = 0; delivery = 0 }
 
 abbrev pub noRunning : Running
-noRunning = record { plant = U noUnit; v = 0; d = 0; b = 0; based = false; percent = 0; paid = 0 }
+noRunning = record { plant = U noUnit; v = 0; d = 0; b = 0; based = false; percent = 0 }
 
 -- "Write v for a source's open energy (g at first), D for what was directly taken from it (0 at first), b for its basic amount (0 until set)."
 abbrev pub opened : Plant → Running
-opened p = record { plant = p; v = generation p; d = 0; b = 0; based = false; percent = 0; paid = 0 }
+opened p = record { plant = p; v = generation p; d = 0; b = 0; based = false; percent = 0 }
 
 -- "Its level is v + D."
 abbrev pub level : Running → ℕ
@@ -59,12 +59,12 @@ basic s x = if s .based then s .b else min (s .v) (basis x (s .plant))
 
 -- the unit with its b set
 abbrev pub basedOn : Running → ℕ → Running
-basedOn s b = record { plant = s .plant; v = s .v; d = s .d; b = b; based = true; percent = s .percent; paid = s .paid }
+basedOn s b = record { plant = s .plant; v = s .v; d = s .d; b = b; based = true; percent = s .percent }
 
 abbrev pub withBasic : Running → Basis → Running
 withBasic s x = basedOn s (basic s x)
 
--- "D becomes b·P/100 rounded down; the increase leaves v .. the cost charged is that at the new D less that at the old D"
+-- "D becomes b·P/100 rounded down; the increase leaves v"
 abbrev pub renewed : Running → ℕ → Running
 renewed s p =
     let new = s .b * p / 100 in
@@ -75,12 +75,15 @@ renewed s p =
       b = s .b;
       based = s .based;
       percent = p;
-      paid = s .paid + (changed s new - changed s (s .d));
     }
 
 -- one D line: "P is the unit's percent total so far"
 unfoldable pub directed : Running → Direct → Running
 directed s line = renewed (withBasic s (line .basis)) (s .percent + line .percent)
+
+-- what D has cost since the hour's start, when it was 0: "the cost charged is that at the new D less that at the old D"
+abbrev pub charged : Running → ℕ
+charged s = changed s (s .d)
 
 -- a D line, if its delivery is a member of the group
 unfoldable pub groupLine : (ℕ → Bool) → Direct → List Running → List Running
@@ -112,7 +115,7 @@ room x s = if movable (s .plant) then s .v - floor x s else 0
 -- The plain rule, for unloading, the last step and credit alike.
 
 abbrev pub withOpen : Running → ℕ → Running
-withOpen s v = record { plant = s .plant; v = v; d = s .d; b = s .b; based = s .based; percent = s .percent; paid = s .paid }
+withOpen s v = record { plant = s .plant; v = v; d = s .d; b = s .b; based = s .based; percent = s .percent }
 
 pub record Way : Type 0 where
   pub room : Running → ℕ  -- by how many MWh a source may still be moved
@@ -236,7 +239,7 @@ pub data Item : Type 0 where
 abbrev pub amount : Item → Running → Running → Running → Amount
 amount directMwh s t u = record { minus = false; size = t .d - s .d }
 amount incrementalMwh s t u = less (level t) (level u)
-amount directCost s t u = record { minus = false; size = t .paid - s .paid }
+amount directCost s t u = record { minus = false; size = charged t - charged s }
 amount incrementalCost s t u = less (changed t (level t)) (changed u (level u))
 
 -- "after the members so far, |amount|·(their MWh)/(group MWh) rounded down"; "Group total 0: the first member has all."
@@ -247,3 +250,10 @@ upTo x size c m = if eqb x 0 then (if eqb c 0 then 0 else size) else size * m / 
 -- "Open energy left on a source costs W(D + v) - W(D), W as changed."
 abbrev pub openCost : Running → ℕ
 openCost s = changed s (s .d + s .v) - changed s (s .d)
+
+pub data OpenItem : Type 0 where
+  openMwh openGrains : OpenItem
+
+abbrev pub openAmount : OpenItem → Running → ℕ
+openAmount openMwh s = s .v
+openAmount openGrains s = openCost s

@@ -3,14 +3,15 @@ use mathlib.Core.Bool.{Bool}
 use mathlib.Core.List.{List, [], _∷_, _++_, map}
 use mathlib.Core.Option.{Option, none, some}
 use Prim.Native.Nat.{ℕ, zero, suc, _+_, _-_, _*_}
-use lib.Dec.{eqb}
+use lib.Dec.{ltb}
 use lib.ListN.{getD, take}
 use lib.IntN.{ℤ, pos}
 use Rattle.rules.specs.Words.{if_then_else_, sumTo, listTo}
 use Rattle.rules.specs.Refusals.{Outcome, accepted, andThen}
 use Rattle.rules.specs.Sequences.{noDelivery, sameNumber, numbered}
-use Rattle.rules.specs.Group.{noRunning, opened, groupLines, remainder, Amount, signed, Item, directMwh, incrementalMwh, directCost, incrementalCost, amount, upTo, openCost}
+use Rattle.rules.specs.Group.{noRunning, opened, groupLines, remainder, Amount, signed, Item, directMwh, incrementalMwh, directCost, incrementalCost, amount, upTo, OpenItem, openMwh, openGrains, openAmount}
 use Rattle.rules.specs.declared.InternalSequence.{InternalSequence}
+use Rattle.rules.specs.declared.Key.{Key}
 use Rattle.rules.specs.declared.Hour.{Hour}
 use Rattle.rules.specs.declared.Running.{Running}
 
@@ -22,30 +23,36 @@ abbrev pub orNone : Option InternalSequence → InternalSequence
 orNone none = noNumber
 orNone (some x) = x
 
--- each delivery's internal number
-unfoldable pub numbers : Hour → List InternalSequence
-numbers h = map (λ t. orNone (numbered (h .deliveries) (h .ndeliveries) t)) (take (h .ndeliveries) (h .deliveries))
+abbrev pub noKey : Key
+noKey = record { number = noNumber }
 
-abbrev pub internalAt : List InternalSequence → ℕ → InternalSequence
-internalAt ns j = getD ns j noNumber
+-- each delivery's key: its internal number
+unfoldable pub keys : Hour → List Key
+keys h = map (λ t. record { number = orNone (numbered (h .deliveries) (h .ndeliveries) t) }) (take (h .ndeliveries) (h .deliveries))
 
--- "Deliveries with equal internal numbers form a group": those of number x
-abbrev pub member : List InternalSequence → InternalSequence → ℕ → Bool
-member ns x j = sameNumber (internalAt ns j) x
+abbrev pub keyAt : List Key → ℕ → Key
+keyAt ks j = getD ks j noKey
+
+-- "Deliveries with equal internal numbers form a group": those of key x
+abbrev pub sameKey : Key → Key → Bool
+sameKey x y = sameNumber (x .number) (y .number)
+
+abbrev pub member : List Key → Key → ℕ → Bool
+member ks x j = sameKey (keyAt ks j) x
 
 -- the MWh of the group's members among the first j deliveries, and how many they are
-abbrev pub scheduled : Hour → List InternalSequence → InternalSequence → ℕ → ℕ
-scheduled h ns x j = sumTo (λ i. if member ns x i then getD (h .deliveries) i noDelivery .mwh else 0) j
+abbrev pub scheduled : Hour → List Key → Key → ℕ → ℕ
+scheduled h ks x j = sumTo (λ i. if member ks x i then getD (h .deliveries) i noDelivery .mwh else 0) j
 
-abbrev pub counted : List InternalSequence → InternalSequence → ℕ → ℕ
-counted ns x j = sumTo (λ i. if member ns x i then 1 else 0) j
+abbrev pub counted : List Key → Key → ℕ → ℕ
+counted ks x j = sumTo (λ i. if member ks x i then 1 else 0) j
 
 -- "each member getting the increase, with the amount's sign"
-unfoldable pub share : Hour → List InternalSequence → InternalSequence → Amount → ℕ → ℤ
-share h ns x a j =
-    let total = scheduled h ns x (h .ndeliveries) in
+unfoldable pub share : Hour → List Key → Key → Amount → ℕ → ℤ
+share h ks x a j =
+    let total = scheduled h ks x (h .ndeliveries) in
     signed (a .minus)
-    (upTo total (a .size) (counted ns x (suc j)) (scheduled h ns x (suc j)) - upTo total (a .size) (counted ns x j) (scheduled h ns x j))
+    (upTo total (a .size) (counted ks x (suc j)) (scheduled h ks x (suc j)) - upTo total (a .size) (counted ks x j) (scheduled h ks x j))
 
 -- what deliveries have been given so far: of delivery j from source i, an item
 abbrev pub Cells : Type 0
@@ -57,54 +64,78 @@ pub record Progress : Type 0 where
   pub cells : Cells
 
 -- the group's shares in place of what its members had
-unfoldable pub shared : Hour → List InternalSequence → InternalSequence → List Running → List Running → List Running → Cells → Cells
-shared h ns x ss ts us cell j i item =
-    if member ns x j then share h ns x (amount item (getD ss i noRunning) (getD ts i noRunning) (getD us i noRunning)) j else cell j i item
+unfoldable pub shared : Hour → List Key → Key → List Running → List Running → List Running → Cells → Cells
+shared h ks x ss ts us cell j i item =
+    if member ks x j then share h ks x (amount item (getD ss i noRunning) (getD ts i noRunning) (getD us i noRunning)) j else cell j i item
 
 -- what the D lines took from all sources
 abbrev pub tookAll : ℕ → List Running → List Running → ℕ
 tookAll n ss ts = sumTo (λ i. getD ts i noRunning .d - getD ss i noRunning .d) n
 
 -- group x after its D lines: the remainder, and the members' shares
-unfoldable pub rest : Hour → List InternalSequence → InternalSequence → List Running → List Running → Cells → Outcome Progress
-rest h ns x ss ts cell =
-    andThen (remainder x (h .nsources) (scheduled h ns x (h .ndeliveries)) (tookAll (h .nsources) ss ts) ts) λ us.
-    accepted (record { states = us; cells = shared h ns x ss ts us cell })
+unfoldable pub rest : Hour → List Key → Key → List Running → List Running → Cells → Outcome Progress
+rest h ks x ss ts cell =
+    andThen (remainder (x .number) (h .nsources) (scheduled h ks x (h .ndeliveries)) (tookAll (h .nsources) ss ts) ts) λ us.
+    accepted (record { states = us; cells = shared h ks x ss ts us cell })
 
--- one group; a number that no delivery has makes none
-unfoldable pub group : Hour → List InternalSequence → InternalSequence → Progress → Outcome Progress
-group h ns x p =
-    if eqb (counted ns x (h .ndeliveries)) 0 then accepted p else
-    rest h ns x (p .states) (groupLines (member ns x) (h .directs) (p .states) (h .ndirects)) (p .cells)
+-- one group
+unfoldable pub group : Hour → List Key → Key → Progress → Outcome Progress
+group h ks x p = rest h ks x (p .states) (groupLines (member ks x) (h .directs) (p .states) (h .ndirects)) (p .cells)
 
--- the numbers from 999 down; no delivery has a higher one (balance/NumbersBelow1000)
-abbrev pub descending : ℕ → InternalSequence
-descending k = record { 0 = 999 - k }
+-- "Groups go by descending number."
+abbrev pub goesBefore : Key → Key → Bool
+goesBefore x y = ltb (y .number .0) (x .number .0)
 
--- "Groups go by descending number": after the first k numbers
-unfoldable pub groups : Hour → List InternalSequence → ℕ → Outcome Progress
-groups h ns zero = accepted (record { states = map (λ s. opened (s .plant)) (h .sources); cells = λ j i item. pos 0 })
-groups h ns (suc k) = andThen (groups h ns k) (group h ns (descending k))
+-- a key put in its turn, if it has none yet
+unfoldable pub inTurn : Key → List Key → List Key
+inTurn x [] = x ∷ []
+inTurn x (y ∷ ys) = if sameKey x y then y ∷ ys else if goesBefore x y then x ∷ y ∷ ys else y ∷ inTurn x ys
 
--- all groups; the first that meets 12 or 13 decides
+-- the keys that deliveries have, each once, in their turns
+unfoldable pub turns : List Key → List Key
+turns [] = []
+turns (x ∷ xs) = inTurn x (turns xs)
+
+-- the groups of some keys, one after another; the first that meets 12 or 13 decides
+unfoldable pub groups : Hour → List Key → List Key → Progress → Outcome Progress
+groups h ks [] p = accepted p
+groups h ks (x ∷ xs) p = andThen (group h ks x p) (groups h ks xs)
+
+-- the hour's start
+abbrev pub opening : Hour → Progress
+opening h = record { states = map (λ s. opened (s .plant)) (h .sources); cells = λ j i item. pos 0 }
+
+-- all groups
 unfoldable pub reconstructed : Hour → Outcome Progress
-reconstructed h = groups h (numbers h) 1000
+reconstructed h = groups h (keys h) (turns (keys h)) (opening h)
 
 -- "For each delivery, then each source, in deck order: direct MWh, incremental MWh, direct cost, incremental cost."
+abbrev pub items : List Item
+items = directMwh ∷ incrementalMwh ∷ directCost ∷ incrementalCost ∷ []
+
 abbrev pub pairCells : Cells → ℕ → ℕ → List ℤ
-pairCells cell j i = cell j i directMwh ∷ cell j i incrementalMwh ∷ cell j i directCost ∷ cell j i incrementalCost ∷ []
+pairCells cell j i = map (cell j i) items
 
 -- "After them, for each source, open MWh and open cost."
+abbrev pub openItems : List OpenItem
+openItems = openMwh ∷ openGrains ∷ []
+
 abbrev pub openCells : List Running → ℕ → List ℤ
-openCells ss i = pos (getD ss i noRunning .v) ∷ pos (openCost (getD ss i noRunning)) ∷ []
+openCells ss i = map (λ item. pos (openAmount item (getD ss i noRunning))) openItems
 
 unfoldable pub cellsOf : Hour → Progress → List ℤ
 cellsOf h p =
     listTo (λ j. listTo (pairCells (p .cells) j) (h .nsources)) (h .ndeliveries) ++ listTo (openCells (p .states)) (h .nsources)
 
--- how many they are
+-- how many a pair has, a source, and all together
+abbrev pub pairWidth : ℕ
+pairWidth = 4
+
+abbrev pub openWidth : ℕ
+openWidth = 2
+
 abbrev pub cellCount : Hour → ℕ
-cellCount h = h .ndeliveries * (h .nsources * 4) + h .nsources * 2
+cellCount h = h .ndeliveries * (h .nsources * pairWidth) + h .nsources * openWidth
 
 -- the hour's answer
 unfoldable pub answer : Hour → Outcome (List ℤ)

@@ -6,7 +6,7 @@ use lib.IntN.{ℤ, pos, negsuc, _+ℤ_}
 use Rattle.rules.specs.Words.{listTo, text}
 use Rattle.rules.specs.Refusals.{Outcome, accepted, refused, numberOf, placeOf, andThen}
 use Rattle.rules.specs.Group.{noRunning, directMwh, incrementalMwh, directCost, incrementalCost, openCost}
-use Rattle.rules.specs.Hour.{numbers, internalAt, Progress, reconstructed}
+use Rattle.rules.specs.Hour.{keys, keyAt, Progress, reconstructed}
 use Rattle.rules.specs.Fields.{digits, escape, Chars}
 use Rattle.rules.specs.Record.{chars, sourceAt, deliveryAt}
 use Rattle.rules.specs.Reading.{generated, delivered, reading}
@@ -27,7 +27,7 @@ headerLine h = hour (generated h) (h .losses) (delivered h) (generated h - (h .l
 -- "Then each delivery with each source, deck order: label as in the deck, internal number, source, direct MWh, incremental MWh, both costs in one sum."
 abbrev pub pairLine : Hour → Progress → ℕ → ℕ → ReportLine
 pairLine h p j i =
-    pair (chars (deliveryAt h j .label)) (internalAt (numbers h) j) (chars (sourceAt h i .label)) (p .cells j i directMwh) (p .cells j i incrementalMwh)
+    pair (chars (deliveryAt h j .label)) (keyAt (keys h) j .number) (chars (sourceAt h i .label)) (p .cells j i directMwh) (p .cells j i incrementalMwh)
     (p .cells j i directCost +ℤ p .cells j i incrementalCost)
 
 -- "Then open MWh and cost of each source."

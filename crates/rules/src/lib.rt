@@ -2,8 +2,8 @@
 // The rules over them are in specs/, as definitions that compute; all other code stands in the crates above.
 ghost use mathlib.Core.Path.{_≡_};
 ghost use Prim.Native.Nat.{_+_, _-_, _*_, _/_, _≤_};
-ghost use Rattle.rules.specs.Units.{curveInside, curveMade};
-ghost use Rattle.rules.specs.Group.{changed, basedOn, renewed};
+ghost use Rattle.rules.specs.Units.{generation, curveInside, curveMade};
+ghost use Rattle.rules.specs.Group.{basedOn, renewed};
 ghost use Rattle.rules.specs.Answers.{curveAnswer};
 
 // The curve's start k, its coefficients A, B and C in thousandths, and the rate R. Its fields are closed: `new` alone makes one.
@@ -123,6 +123,18 @@ pub enum Plant {
     Fixed { g: u32 },
 }
 
+impl Plant {
+    pub fn generation(self) -> u32
+        ensures { λ x. ⌜ x ≡ generation self ⌝ }
+    {
+        match self {
+            Plant::Unit(u) => u.g,
+            Plant::Purchase { g, rate: _ } => g,
+            Plant::Fixed { g } => g,
+        }
+    }
+}
+
 // A label's characters, and zeros after them.
 pub struct Label {
     pub len: u8,
@@ -137,8 +149,12 @@ pub struct Source {
 // The number on a T line; 0 means "to be placed".
 pub struct InputSequence(pub u32);
 
-// The number that makes a group.
 pub struct InternalSequence(pub u32);
+
+// What makes a group: deliveries of one key are its members.
+pub struct Key {
+    pub number: InternalSequence,
+}
 
 pub struct Delivery {
     pub sequence: InputSequence,
@@ -174,7 +190,7 @@ pub struct Hour {
 }
 
 // A source's running state: its plant, open energy v, directly taken d, basic amount b and whether it is set,
-// the percent total so far, and what was charged for d.
+// and the percent total so far.
 pub struct Running {
     pub plant: Plant,
     pub v: u32,
@@ -182,14 +198,12 @@ pub struct Running {
     pub b: u32,
     pub based: bool,
     pub percent: u32,
-    pub paid: u64,
 }
 
 impl Running {
-    // The state after a direct allocation: mwh taken in all, the percent total's part of the basic amount b, for what was paid in all.
-    pub fn with_direct(self, mwh: u32, b: u32, percent: u32, paid: u64) -> Running
-        requires taken { ⌜ (mwh ≡ b * percent / 100) × (self .d ≤ mwh) × (mwh ≤ self .v + self .d) ⌝ }
-        requires charged { ⌜ paid ≡ self .paid + (changed (basedOn self b) mwh - changed (basedOn self b) (self .d)) ⌝ }
+    // The state after a direct allocation: mwh taken in all, the percent total's part of the basic amount b.
+    pub fn with_direct(self, mwh: u32, b: u32, percent: u32) -> Running
+        requires { ⌜ (mwh ≡ b * percent / 100) × (self .d ≤ mwh) × (mwh ≤ self .v + self .d) ⌝ }
         ensures { λ r. ⌜ r ≡ renewed (basedOn self b) percent ⌝ }
     {
         let p = self.plant;
@@ -200,7 +214,6 @@ impl Running {
             b: b,
             based: true,
             percent: percent,
-            paid: paid,
         }
     }
 }

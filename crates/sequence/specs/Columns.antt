@@ -12,7 +12,7 @@ use lib.ListN.{length, getD, set, replicate, length-set}
 use lib.Seq.{getD-set-same, getD-set-other}
 use Rattle.laws.specs.Internal.{internal, number-same}
 use Rattle.laws.specs.Sums.{below-suc}
-use Rattle.rules.specs.Hour.{noNumber, internalAt}
+use Rattle.rules.specs.Hour.{noNumber}
 use Rattle.rules.specs.Sequences.{noDelivery, timesTen, joined, match, matches}
 use Rattle.rules.specs.Words.{if_then_else_}
 use Rattle.rules.specs.declared.Delivery.{Delivery}
@@ -36,11 +36,15 @@ pub record Columns (ts : List Delivery) (n : ℕ) (kinds blocks : List ℕ) (own
   pub block : Column 0 (λ t. t .block) ts n blocks
   pub number : Column noNumber ownNumber ts n own
 
+-- delivery j's own number in its column
+abbrev pub ownAt : List InternalSequence → ℕ → InternalSequence
+ownAt own j = getD own j noNumber
+
 -- columns of small numbers
 pub record Ranged (blocks : List ℕ) (own : List InternalSequence) (n : ℕ) : Type 0 where
   pub n-small : n ≤ 32
   pub block : (j : ℕ) → j < n → getD blocks j 0 ≤ 99
-  pub number : (j : ℕ) → j < n → internalAt own j .0 ≤ 990
+  pub number : (j : ℕ) → j < n → ownAt own j .0 ≤ 990
 
 abbrev pub isUnplaced : InternalSequence → Bool
 isUnplaced x = eqb (x .0) 0
@@ -156,11 +160,11 @@ module _ (kinds blocks : List ℕ) (own : List InternalSequence) (greatest : Boo
   unfolding matches
   best-none passes = record { small = omega arith; is = λ ts c. refl }
 
-  pub best-more : (x : Sought) (i : ℕ) (s r v : InternalSequence) → Best kinds blocks own i greatest (sought x) s → internalAt own i .0 ≤ 990 →
-      v ≡ numberIf x (getD kinds i 0) (getD blocks i 0) (internalAt own i) → r ≡ betterOf greatest s v → Best kinds blocks own (i + 1) greatest (sought x) r
+  pub best-more : (x : Sought) (i : ℕ) (s r v : InternalSequence) → Best kinds blocks own i greatest (sought x) s → ownAt own i .0 ≤ 990 →
+      v ≡ numberIf x (getD kinds i 0) (getD blocks i 0) (ownAt own i) → r ≡ betterOf greatest s v → Best kinds blocks own (i + 1) greatest (sought x) r
   unfolding matches
   best-more x i s r v b l p q = record {
-    small = rw q (better-small greatest s v (b .small) (rw p (numberIf-small x (getD kinds i 0) (getD blocks i 0) (internalAt own i) l)));
+    small = rw q (better-small greatest s v (b .small) (rw p (numberIf-small x (getD kinds i 0) (getD blocks i 0) (ownAt own i) l)));
     is = λ ts c.
         let t = getD ts i noDelivery in
         let same : v ≡ numberIf x (t .kind) (t .block) (ownNumber t) = p ∙ rw (c .kind .at i (omega arith), c .block .at i (omega arith), c .number .at i (omega arith)) in

@@ -2,4 +2,4 @@ pub mod Columns
 pub mod Placings
 pub mod RuleByRule
 pub mod SameGroups
-pub mod HighestNumber
+pub mod NextKey

@@ -8,13 +8,13 @@ use native.Mathlib.Omega.{arith}
 use borrow.Author.Tests.{eq-eqb, ne-eqb, eqb-true, eqb-false}
 use lib.Dec.{eqb}
 use lib.ListN.{getD}
-use Rattle.rules.specs.Hour.{noNumber, orNone, internalAt}
+use Rattle.rules.specs.Hour.{noNumber, orNone}
 use Rattle.rules.specs.Sequences.{noDelivery, toPlace, joined, matches, before, after, ruleA, ruleB, ruleC, ruleD, ruleE, placed, numbered}
 use Rattle.rules.specs.Words.{if_then_else_}
 use Rattle.rules.specs.declared.Delivery.{Delivery}
 use Rattle.rules.specs.declared.InternalSequence.{InternalSequence}
 use Rattle.sequence.specs.declared.Sought.the-variants.{Block, Kind, Any}
-use Rattle.sequence.specs.Columns.{Columns, isUnplaced, ownNumber, found, found-some, Best, sought, under}
+use Rattle.sequence.specs.Columns.{ownAt, Columns, isUnplaced, ownNumber, found, found-some, Best, sought, under}
 
 -- nothing passes, and so nothing matches
 matches-nothing : (f : ℕ → ℕ → ℕ) (ts : List Delivery) (n : ℕ) → matches f (λ o. false) ts n ≡ none
@@ -109,18 +109,18 @@ module _ (kinds blocks : List ℕ) (own : List InternalSequence) (n j : ℕ) whe
     place-none no-a no-b no-c no-d no-e ts c = rw (is-a ts c no-a, is-b ts c no-b, is-c ts c no-c, is-d ts c no-d, is-e ts c no-e)
 
     -- ten times an input number is 0 where that is
-    its-own : (ts : List Delivery) → Columns ts n kinds blocks own → internalAt own j ≡ ownNumber (getD ts j noDelivery)
+    its-own : (ts : List Delivery) → Columns ts n kinds blocks own → ownAt own j ≡ ownNumber (getD ts j noDelivery)
     its-own ts c = c .number .at j in-range
 
-    pub number-placed : {r : InternalSequence} → isUnplaced (internalAt own j) ≡ true → Placing r → Numbering r
+    pub number-placed : {r : InternalSequence} → isUnplaced (ownAt own j) ≡ true → Placing r → Numbering r
     unfolding numbered
     number-placed e p ts c =
         let t = getD ts j noDelivery in
-        let z : internalAt own j .0 ≡ 0 = eqb-true (internalAt own j .0) 0 e in
+        let z : ownAt own j .0 ≡ 0 = eqb-true (ownAt own j .0) 0 e in
         rw (eq-eqb (t .sequence .0) 0 (omega (arith, z, ap (λ (x : InternalSequence). x .0) (its-own ts c)))) (p ts c)
 
-    pub number-given : isUnplaced (internalAt own j) ≡ false → Numbering (internalAt own j)
+    pub number-given : isUnplaced (ownAt own j) ≡ false → Numbering (ownAt own j)
     unfolding numbered
     number-given e ts c =
         let t = getD ts j noDelivery in
-        rw (ne-eqb (t .sequence .0) 0 (λ z. eqb-false (internalAt own j .0) 0 e (omega (arith, z, ap (λ (x : InternalSequence). x .0) (its-own ts c))))) (its-own ts c)
+        rw (ne-eqb (t .sequence .0) 0 (λ z. eqb-false (ownAt own j .0) 0 e (omega (arith, z, ap (λ (x : InternalSequence). x .0) (its-own ts c))))) (its-own ts c)

@@ -1,24 +1,28 @@
-// Each delivery's internal number: ten times its input number, or a place beside those of deliveries that have one; and the next group below a number.
-// The contracts cite rules' Sequences, and `placings` of specs/, rules' `numbered` of each delivery. The search reads columns; its contracts speak of any deliveries that have them.
+// Each delivery's key, its internal number: ten times its input number, or a place beside those of deliveries that have one; and the key whose turn comes next.
+// The contracts cite rules' Sequences and Hour, and `placings` of specs/, rules' `numbered` of each delivery. The search reads columns; its contracts speak of any deliveries that have them.
 use rules::Delivery;
 use rules::InputSequence;
 use rules::InternalSequence;
+use rules::Key;
 ghost use mathlib.Core.Bool.{true, _&&_};
 ghost use mathlib.Core.List.{List};
 ghost use mathlib.Core.Option.{some};
 ghost use mathlib.Core.Path.{_≡_};
 ghost use Prim.Native.Nat.{_≤_, _<_, min, max};
-ghost use lib.Dec.{eqb};
-ghost use Rattle.rules.specs.Sequences.{timesTen, sameNumber, before, after};
+ghost use lib.Dec.{eqb, ltb};
+ghost use Rattle.rules.specs.Sequences.{timesTen, before, after};
+ghost use Rattle.rules.specs.Hour.{sameKey, goesBefore};
 ghost use Rattle.rules.specs.declared.Delivery.{Delivery};
 ghost use Rattle.laws.specs.Internal.{internal};
 ghost use Rattle.sequence.specs.Columns.{Columns, Ranged, isUnplaced, fits, numberIf, betterOf, Best, sought, under};
 ghost use Rattle.sequence.specs.RuleByRule.{Placing, Numbering};
 ghost use Rattle.sequence.specs.Placings.{Placeable, placings};
-ghost use Rattle.sequence.specs.HighestNumber.{isBelow, beaten, higherOf, Highest};
+ghost use Rattle.sequence.specs.NextKey.{farther, nearerOf, Next};
 
-// Above every number that a delivery has.
-pub const ABOVE_ALL: InternalSequence = InternalSequence(1000);
+// Before every key that a delivery has.
+pub const BEFORE_ALL: Key = Key {
+    number: InternalSequence(1000),
+};
 
 // The deliveries that a rule looks for: of a type and block, of a type, or any.
 enum Sought {
@@ -27,10 +31,10 @@ enum Sought {
     Any,
 }
 
-// The next group: whether a delivery is left for one, and its number.
+// The next group: whether a delivery is left for one, and its key.
 pub struct NextGroup {
     pub there: bool,
-    pub number: InternalSequence,
+    pub key: Key,
 }
 
 // Numbers are made by these three alone.
@@ -60,14 +64,8 @@ fn one_after(x: InternalSequence) -> InternalSequence
 
 // And compared by these.
 
-pub fn same_number(x: InternalSequence, y: InternalSequence) -> bool
-    ensures { λ r. ⌜ r ≡ sameNumber x y ⌝ }
-{
-    x.0 == y.0
-}
-
 fn is_below(x: InternalSequence, y: InternalSequence) -> bool
-    ensures { λ r. ⌜ r ≡ isBelow x y ⌝ }
+    ensures { λ r. ⌜ r ≡ ltb (x .0) (y .0) ⌝ }
 {
     x.0 < y.0
 }
@@ -248,27 +246,31 @@ fn number(
     x
 }
 
-fn number_all(
+fn key_all(
     kinds: &[u32; 32],
     blocks: &[u32; 32],
     own: [InternalSequence; 32],
     n: usize,
-) -> [InternalSequence; 32]
+) -> [Key; 32]
     requires { ⌜ Ranged (now blocks) own n ⌝ }
     ensures { λ r. ⌜ ((ts : List Delivery) → Columns ts n (now (kinds .entry)) (now (blocks .entry)) own → r ≡ placings ts n) ⌝ }
 {
-    let none = InternalSequence(0);
-    let mut placed: [InternalSequence; 32] = [none; 32];
+    let none = Key {
+        number: InternalSequence(0),
+    };
+    let mut placed: [Key; 32] = [none; 32];
     let mut j = 0;
     while j < n {
-        placed[j] = number(kinds, blocks, own, n, j);
+        placed[j] = Key {
+            number: number(kinds, blocks, own, n, j),
+        };
         j += 1;
     }
     placed
 }
 
-// The internal numbers of the first n deliveries, and 0 past them.
-pub fn numbers(ts: [Delivery; 32], n: usize) -> [InternalSequence; 32]
+// The keys of the first n deliveries, and none past them.
+pub fn keys(ts: [Delivery; 32], n: usize) -> [Key; 32]
     requires { ⌜ Placeable ts n ⌝ }
     ensures { λ r. ⌜ r ≡ placings ts n ⌝ }
 {
@@ -285,49 +287,66 @@ pub fn numbers(ts: [Delivery; 32], n: usize) -> [InternalSequence; 32]
         own[i] = times_ten(sequence);
         i += 1;
     }
-    number_all(&kinds, &blocks, own, n)
+    key_all(&kinds, &blocks, own, n)
 }
 
-// Whether y is higher than the best so far.
-fn is_beaten(best: NextGroup, y: InternalSequence) -> bool
-    ensures { λ r. ⌜ r ≡ beaten best y ⌝ }
+// Keys.
+
+pub fn same_key(x: Key, y: Key) -> bool
+    ensures { λ r. ⌜ r ≡ sameKey x y ⌝ }
+{
+    x.number.0 == y.number.0
+}
+
+// Whether x's turn comes before y's.
+fn goes_before(x: Key, y: Key) -> bool
+    ensures { λ r. ⌜ r ≡ goesBefore x y ⌝ }
+{
+    y.number.0 < x.number.0
+}
+
+// Whether the best so far, if there is one, comes after y.
+fn is_farther(best: NextGroup, y: Key) -> bool
+    ensures { λ r. ⌜ r ≡ farther best y ⌝ }
 {
     if !best.there {
         return true;
     }
-    let x = best.number;
-    is_below(x, y)
+    let x = best.key;
+    goes_before(y, x)
 }
 
-// The higher of the best so far and y, where y is below x.
-fn higher(best: NextGroup, y: InternalSequence, x: InternalSequence) -> NextGroup
-    ensures { λ r. ⌜ r ≡ higherOf best y x ⌝ }
+// Of the best so far and y the one that comes first, where y comes after x.
+fn nearer(best: NextGroup, y: Key, x: Key) -> NextGroup
+    ensures { λ r. ⌜ r ≡ nearerOf best y x ⌝ }
 {
-    if !is_below(y, x) {
+    if !goes_before(x, y) {
         return best;
     }
-    if !is_beaten(best, y) {
+    if !is_farther(best, y) {
         return best;
     }
     NextGroup {
         there: true,
-        number: y,
+        key: y,
     }
 }
 
-// The highest number below x that one of the first n deliveries has.
-pub fn highest_below(numbers: [InternalSequence; 32], n: usize, x: InternalSequence) -> NextGroup
+// The first key after x that one of the first n deliveries has.
+pub fn next_after(keys: [Key; 32], n: usize, x: Key) -> NextGroup
     requires { ⌜ n ≤ 32 ⌝ }
-    ensures { λ r. ⌜ Highest numbers n x r ⌝ }
+    ensures { λ r. ⌜ Next keys n x r ⌝ }
 {
     let mut best = NextGroup {
         there: false,
-        number: InternalSequence(0),
+        key: Key {
+            number: InternalSequence(0),
+        },
     };
     let mut j = 0;
     while j < n {
-        let y = numbers[j];
-        best = higher(best, y, x);
+        let y = keys[j];
+        best = nearer(best, y, x);
         j += 1;
     }
     best

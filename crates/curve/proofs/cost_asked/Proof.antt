@@ -17,7 +17,9 @@ returns c =
     asked-outside (s .c) (s .m) (sym (at-test .is-inside .ensures) ∙ not-true _ (c .if1 .taken))
 
 returns-2 : tie.Need-returns-2
-returns-2 c = let s = c .before .before .before .args in asked-high (s .c) (s .m) (c .if2 .taken)
+returns-2 c =
+    let start = c .before .before .before in
+    let s = start .args in asked-high (s .c) (s .m) (c .if2 .taken)
 
 curve-cost-requires : tie.Need-curve-cost-requires
 curve-cost-requires c κs =

@@ -19,7 +19,10 @@ cast-x : tie.Need-cast-x
 cast-x c = search needs
 
 mul-x : tie.Need-mul-x
-mul-x c = let n : c .before .low-at2 .result ≤ 2000 = omega (arith, c .before .low-at2 .ensures, c .before .before .before .pre .1 .1) in omega (arith, mul-le-mul (c .changed-cost .ensures .1) n)
+mul-x c =
+    let after-low-at2 = c .before in
+    let start = after-low-at2 .before .before in
+    let n : after-low-at2 .low-at2 .result ≤ 2000 = omega (arith, after-low-at2 .low-at2 .ensures, start .pre .1 .1) in omega (arith, mul-le-mul (c .changed-cost .ensures .1) n)
 
 changed-cost-requires-2 : tie.Need-changed-cost-requires-2
 changed-cost-requires-2 c κs = let s = c .before .before .before in (s .pre .0 .1, omega (arith, c .before .low-at2 .ensures, s .pre .1 .1))
@@ -28,10 +31,17 @@ cast-y : tie.Need-cast-y
 cast-y c = search needs
 
 mul-y : tie.Need-mul-y
-mul-y c = let m : c .before .before .before .low-at .result ≤ 2000 = omega (arith, c .before .before .before .low-at .ensures, c .before .before .before .before .pre .1 .0) in omega (arith, mul-le-mul (c .changed-cost2 .ensures .1) m)
+mul-y c =
+    let after-low-at = c .before .before .before in
+    let start = after-low-at .before in
+    let m : after-low-at .low-at .result ≤ 2000 = omega (arith, after-low-at .low-at .ensures, start .pre .1 .0) in omega (arith, mul-le-mul (c .changed-cost2 .ensures .1) m)
 
 returns : tie.Need-returns
-returns c = rw (c .changed-cost2 .ensures .0, c .before .changed-cost .ensures .0, c .before .before .low-at2 .ensures, c .before .before .before .low-at .ensures)
+returns c =
+    let after-changed-cost = c .before in
+    let after-low-at2 = after-changed-cost .before in
+    let after-low-at = after-low-at2 .before in
+    rw (c .changed-cost2 .ensures .0, after-changed-cost .changed-cost .ensures .0, after-low-at2 .low-at2 .ensures, after-low-at .low-at .ensures)
 
 pub dearer-average-spec : {M : Type 1} → statement M
 dearer-average-spec =

@@ -38,10 +38,16 @@ returns-4 : tie.Need-returns-4
 returns-4 c = search needs
 
 returns-5 : tie.Need-returns-5
-returns-5 c = let e = c .enum-told5 .given .1 in no-low (c .before .before .args .x) (c .before .before .args .p) (rw e) (rw e) (rw e)
+returns-5 c =
+    let at-match-keys2 = c .before in
+    let start = at-match-keys2 .before in
+    let e = c .enum-told5 .given .1 in no-low (start .args .x) (start .args .p) (rw e) (rw e) (rw e)
 
 returns-6 : tie.Need-returns-6
-returns-6 c = let e = c .enum-told6 .given .1 in no-low (c .before .before .args .x) (c .before .before .args .p) (rw e) (rw e) (rw e)
+returns-6 c =
+    let at-match-keys3 = c .before in
+    let start = at-match-keys3 .before in
+    let e = c .enum-told6 .given .1 in no-low (start .args .x) (start .args .p) (rw e) (rw e) (rw e)
 
 pub low-at-spec : {M : Type 1} → statement M
 low-at-spec =

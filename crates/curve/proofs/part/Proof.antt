@@ -10,7 +10,9 @@ returns : tie.Need-returns
 returns c = rw (c .if1 .taken) (sym (div-zero _))
 
 mul-result : tie.Need-mul-result
-mul-result c = omega (arith, mul-le-mul (c .before .pre .0) (c .before .pre .1))
+mul-result c =
+    let start = c .before in
+    omega (arith, mul-le-mul (start .pre .0) (start .pre .1))
 
 div-result : tie.Need-div-result
 div-result c = search needs

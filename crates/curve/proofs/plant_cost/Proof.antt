@@ -27,7 +27,9 @@ enum-told : tie.Need-enum-told
 enum-told c = search needs
 
 returns : tie.Need-returns
-returns c = let p = c .before .before .before .p .given in (rw (p .1) (c .curve-cost .ensures .0), c .curve-cost .ensures .1)
+returns c =
+    let after-p = c .before .before .before in
+    let p = after-p .p .given in (rw (p .1) (c .curve-cost .ensures .0), c .curve-cost .ensures .1)
 
 returns-2 : tie.Need-returns-2
 returns-2 c =

@@ -10,7 +10,10 @@ may-move-requires : tie.Need-may-move-requires
 may-move-requires c κs = search needs
 
 returns : tie.Need-returns
-returns c = let s = c .before .before .args in room-none (s .s) (s .x) (sym (c .before .may-move .ensures) ∙ not-true _ (c .if1 .taken))
+returns c =
+    let after-may-move = c .before in
+    let start = after-may-move .before in
+    let s = start .args in room-none (s .s) (s .x) (sym (after-may-move .may-move .ensures) ∙ not-true _ (c .if1 .taken))
 
 low-at-requires : tie.Need-low-at-requires
 low-at-requires c κs = search needs
@@ -26,10 +29,16 @@ less-requires-2 c κs = search needs
 
 returns-2 : tie.Need-returns-2
 returns-2 c =
-    let s = c .before .before .before .before .before .before .args in
+    let after-less = c .before in
+    let after-greater = after-less .before in
+    let after-low-at = after-greater .before in
+    let else1 = after-low-at .before in
+    let after-may-move = else1 .before in
+    let start = after-may-move .before in
+    let s = start .args in
     c .less2 .ensures
-    ∙ rw (c .before .less .ensures, c .before .before .greater .ensures, c .before .before .before .low-at .ensures)
-    (room-is (s .s) (s .x) (sym (c .before .before .before .before .before .may-move .ensures) ∙ not-false _ (c .before .before .before .before .if1 .left)))
+    ∙ rw (after-less .less .ensures, after-greater .greater .ensures, after-low-at .low-at .ensures)
+    (room-is (s .s) (s .x) (sym (after-may-move .may-move .ensures) ∙ not-false _ (else1 .if1 .left)))
 
 pub room-of-spec : {M : Type 1} → statement M
 room-of-spec =

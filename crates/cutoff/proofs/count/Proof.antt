@@ -12,19 +12,32 @@ least-requires : tie.Need-least-requires
 least-requires c κs = search needs
 
 mul-q : tie.Need-mul-q
-mul-q c = omega (arith, c .before .before .pre .product (c .least .result) (omega (arith, c .least .ensures)))
+mul-q c =
+    let start = c .before .before in
+    omega (arith, start .pre .product (c .least .result) (omega (arith, c .least .ensures)))
 
 mul-if1 : tie.Need-mul-if1
-mul-if1 c = omega (arith, c .before .before .pre .test (c .least .result) (omega (arith, c .least .ensures)))
+mul-if1 c =
+    let start = c .before .before in
+    omega (arith, start .pre .test (c .least .result) (omega (arith, c .least .ensures)))
 
 add-result : tie.Need-add-result
-add-result c = omega (arith, c .before .before .before .pre .product (c .before .least .result) (omega (arith, c .before .least .ensures)))
+add-result c =
+    let after-least = c .before in
+    let start = after-least .before .before in
+    omega (arith, start .pre .product (after-least .least .result) (omega (arith, after-least .least .ensures)))
 
 returns : tie.Need-returns
-returns c = stock-more _ _ _ _ _ (c .before .least .result) (omega (arith, c .before .least .ensures, c .before .before .less .ensures)) (c .if1 .taken)
+returns c =
+    let after-least = c .before in
+    let after-less = after-least .before in
+    stock-more _ _ _ _ _ (after-least .least .result) (omega (arith, after-least .least .ensures, after-less .less .ensures)) (c .if1 .taken)
 
 returns-2 : tie.Need-returns-2
-returns-2 c = stock-same _ _ _ _ _ (c .before .least .result) (omega (arith, c .before .least .ensures, c .before .before .less .ensures)) (c .if1 .left)
+returns-2 c =
+    let after-least = c .before in
+    let after-less = after-least .before in
+    stock-same _ _ _ _ _ (after-least .least .result) (omega (arith, after-least .least .ensures, after-less .less .ensures)) (c .if1 .left)
 
 pub count-spec : {M : Type 1} → statement M
 count-spec =

@@ -19,19 +19,28 @@ first-requires : tie.Need-first-requires Inv-loop μ-loop
 first-requires c κs = search needs
 
 loop-holds : tie.Need-loop-holds Inv-loop μ-loop
-loop-holds c = (omega arith, record { within = omega arith; adds = sym (supply-none (c .before .pre)) })
+loop-holds c =
+    let start = c .before in
+    (omega arith, record { within = omega arith; adds = sym (supply-none (start .pre)) })
 
 enough-requires : tie.Need-enough-requires Inv-loop μ-loop
 enough-requires c κs = search needs
 
 returns : tie.Need-returns Inv-loop μ-loop
-returns c = c .before .before .before .loop .inv .1
+returns c =
+    let in-loop = c .before .before in
+    let at-loop = in-loop .before in
+    at-loop .loop .inv .1
 
 mark-requires : tie.Need-mark-requires Inv-loop μ-loop
 mark-requires c κs = search needs
 
 supply-requires : tie.Need-supply-requires Inv-loop μ-loop
-supply-requires c κs = table-scales (c .before .before .before .before .before .before .pre)
+supply-requires c κs =
+    let in-loop = c .before .before .before in
+    let at-loop = in-loop .before in
+    let start = at-loop .before .before in
+    table-scales (start .pre)
 
 lower-requires : tie.Need-lower-requires Inv-loop μ-loop
 lower-requires c κs = search needs
@@ -46,16 +55,21 @@ loop-less : tie.Need-loop-less Inv-loop μ-loop
 loop-less c = search needs
 
 loop-again : tie.Need-loop-again Inv-loop μ-loop
-loop-again c = (
-  omega arith,
-  ⊎-elim
-      (λ w. rw (w .3) (record { within = w .0 .taken; adds = c .before .before .supply .ensures }))
-      (λ w. rw (w .3) (c .before .before .before .before .before .before .before .loop .inv .1))
-      (c .if2 .came),
-)
+loop-again c =
+    let after-supply = c .before .before in
+    let in-loop = after-supply .before .before .before .before in
+    let at-loop = in-loop .before in (
+      omega arith,
+      ⊎-elim
+          (λ w. rw (w .3) (record { within = w .0 .taken; adds = after-supply .supply .ensures }))
+          (λ w. rw (w .3) (at-loop .loop .inv .1))
+          (c .if2 .came),
+    )
 
 returns-2 : tie.Need-returns-2 Inv-loop μ-loop
-returns-2 c = c .before .loop .inv .1
+returns-2 c =
+    let at-loop = c .before in
+    at-loop .loop .inv .1
 
 pub find-mark-spec : {M : Type 1} → statement M
 find-mark-spec =

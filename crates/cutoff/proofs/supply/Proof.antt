@@ -44,7 +44,11 @@ element-copy-out-v : tie.Need-element-copy-out-v Inv-loop μ-loop
 element-copy-out-v c = search needs
 
 count-requires : tie.Need-count-requires Inv-loop μ-loop
-count-requires c κs = c .before .before .before .before .before .before .pre .scaled _ (omega arith)
+count-requires c κs =
+    let in-loop = c .before .before .before .before in
+    let at-loop = in-loop .before in
+    let start = at-loop .before in
+    start .pre .scaled _ (omega arith)
 
 add-sum : tie.Need-add-sum Inv-loop μ-loop
 add-sum c =
@@ -66,10 +70,16 @@ loop-less : tie.Need-loop-less Inv-loop μ-loop
 loop-less c = search needs
 
 loop-again : tie.Need-loop-again Inv-loop μ-loop
-loop-again c = (omega arith, sumTo-more _ _ _ _ (c .before .before .before .before .before .before .before .before .loop .inv .1) (c .before .before .count .ensures))
+loop-again c =
+    let after-count = c .before .before in
+    let in-loop = after-count .before .before .before .before .before in
+    let at-loop = in-loop .before in
+    (omega arith, sumTo-more _ _ _ _ (at-loop .loop .inv .1) (after-count .count .ensures))
 
 returns : tie.Need-returns Inv-loop μ-loop
-returns c = sumTo-end _ _ _ _ (c .before .loop .inv .0) (c .loop-test .left) (c .before .loop .inv .1)
+returns c =
+    let at-loop = c .before in
+    sumTo-end _ _ _ _ (at-loop .loop .inv .0) (c .loop-test .left) (at-loop .loop .inv .1)
 
 pub supply-spec : {M : Type 1} → statement M
 supply-spec =

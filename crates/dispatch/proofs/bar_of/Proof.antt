@@ -7,7 +7,9 @@ returns : tie.Need-returns
 returns c = record { some = λ l. absurd (omega arith) }
 
 best-last-requires : tie.Need-best-last-requires
-best-last-requires c κs = c .before .pre
+best-last-requires c κs =
+    let start = c .before in
+    start .pre
 
 returns-2 : tie.Need-returns-2
 returns-2 c = c .best-last .ensures

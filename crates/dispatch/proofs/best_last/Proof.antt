@@ -39,7 +39,11 @@ element-copy-out-next-3 : tie.Need-element-copy-out-next-3 Inv-loop μ-loop
 element-copy-out-next-3 c = omega arith
 
 next-requires : tie.Need-next-requires Inv-loop μ-loop
-next-requires c κs = c .before .before .before .before .before .before .pre .falls _ (omega arith)
+next-requires c κs =
+    let in-loop = c .before .before .before in
+    let at-loop = in-loop .before in
+    let start = at-loop .before .before in
+    start .pre .falls _ (omega arith)
 
 add-i : tie.Need-add-i Inv-loop μ-loop
 add-i c = omega arith
@@ -49,13 +53,20 @@ loop-less c = omega arith
 
 loop-again : tie.Need-loop-again Inv-loop μ-loop
 loop-again c =
+    let after-next = c .before in
+    let in-loop = after-next .before .before .before .before in
+    let at-loop = in-loop .before in
+    let after-less = at-loop .before in
+    let start = after-less .before in
     ⊎-elim
-    (λ w. (omega arith, rw (w .1) (bar-take _ _ _ _ _ _ (c .before .before .before .before .before .before .before .before .pre .falls _ (omega arith)) (rw (c .before .before .before .before .before .before .before .less .ensures) at (c .before .next .ensures)))))
-    (λ w. (omega arith, rw (w .1) (bar-keep _ _ _ _ _ _ (c .before .before .before .before .before .before .loop .inv .1))))
+    (λ w. (omega arith, rw (w .1) (bar-take _ _ _ _ _ _ (start .pre .falls _ (omega arith)) (rw (after-less .less .ensures) at (after-next .next .ensures)))))
+    (λ w. (omega arith, rw (w .1) (bar-keep _ _ _ _ _ _ (at-loop .loop .inv .1))))
     (c .if1 .came)
 
 returns : tie.Need-returns Inv-loop μ-loop
-returns c = bar-all _ _ _ _ _ _ _ (c .before .loop .inv .0) (c .loop-test .left) (c .before .loop .inv .1)
+returns c =
+    let at-loop = c .before in
+    bar-all _ _ _ _ _ _ _ (at-loop .loop .inv .0) (c .loop-test .left) (at-loop .loop .inv .1)
 
 pub best-last-spec : {M : Type 1} → statement M
 best-last-spec =

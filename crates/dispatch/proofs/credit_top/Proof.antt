@@ -6,7 +6,9 @@ use Rattle.dispatch.proofs.credit_top.Statement.{statement}
 use Rattle.dispatch.proofs.credit_top.Tie as tie
 
 returns : tie.Need-returns
-returns c = none-lined (c .before .pre .0) _ _ _ _ (c .if1 .taken)
+returns c =
+    let start = c .before in
+    none-lined (start .pre .0) _ _ _ _ (c .if1 .taken)
 
 add-price-at : tie.Need-add-price-at
 add-price-at c = search needs

@@ -41,7 +41,11 @@ element-copy-out-next-4 : tie.Need-element-copy-out-next-4 Inv-loop μ-loop
 element-copy-out-next-4 c = search needs
 
 next-requires : tie.Need-next-requires Inv-loop μ-loop
-next-requires c κs = c .before .before .before .before .before .before .pre .0 .falls _ (omega arith)
+next-requires c κs =
+    let in-loop = c .before .before .before .before in
+    let at-loop = in-loop .before in
+    let start = at-loop .before in
+    start .pre .0 .falls _ (omega arith)
 
 mul-left : tie.Need-mul-left Inv-loop μ-loop
 mul-left c = search needs
@@ -56,10 +60,16 @@ loop-less : tie.Need-loop-less Inv-loop μ-loop
 loop-less c = search needs
 
 loop-again : tie.Need-loop-again Inv-loop μ-loop
-loop-again c = (omega arith, left-more (c .before .before .before .before .before .before .loop .inv .1) (omega (arith, c .before .before .before .before .before .before .before .pre .0 .n-small)) (c .next .ensures))
+loop-again c =
+    let in-loop = c .before .before .before .before .before in
+    let at-loop = in-loop .before in
+    let start = at-loop .before in
+    (omega arith, left-more (at-loop .loop .inv .1) (omega (arith, start .pre .0 .n-small)) (c .next .ensures))
 
 returns : tie.Need-returns Inv-loop μ-loop
-returns c = left-all (c .before .loop .inv .0) (c .loop-test .left) (c .before .loop .inv .1)
+returns c =
+    let at-loop = c .before in
+    left-all (at-loop .loop .inv .0) (c .loop-test .left) (at-loop .loop .inv .1)
 
 pub find-left-spec : {M : Type 1} → statement M
 find-left-spec =

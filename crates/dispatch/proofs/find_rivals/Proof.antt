@@ -39,13 +39,18 @@ loop-less c = omega arith
 
 loop-again : tie.Need-loop-again Inv-loop μ-loop
 loop-again c =
+    let in-loop = c .before .before in
+    let at-loop = in-loop .before in
+    let start = at-loop .before in
     ⊎-elim
-    (λ w. (omega arith, rw (w .1) (rivals-take _ _ _ _ _ (c .before .before .before .loop .inv .1) (omega (arith, c .before .before .before .before .pre .0)) (omega (arith, w .0 .taken)))))
-    (λ w. (omega arith, rw (w .1) (rivals-skip _ _ _ _ _ (c .before .before .before .loop .inv .1) (omega (arith, w .0 .left)))))
+    (λ w. (omega arith, rw (w .1) (rivals-take _ _ _ _ _ (at-loop .loop .inv .1) (omega (arith, start .pre .0)) (omega (arith, w .0 .taken)))))
+    (λ w. (omega arith, rw (w .1) (rivals-skip _ _ _ _ _ (at-loop .loop .inv .1) (omega (arith, w .0 .left)))))
     (c .if1 .came)
 
 returns : tie.Need-returns Inv-loop μ-loop
-returns c = rivals-all _ _ _ _ _ _ (c .before .loop .inv .0) (c .loop-test .left) (c .before .loop .inv .1)
+returns c =
+    let at-loop = c .before in
+    rivals-all _ _ _ _ _ _ (at-loop .loop .inv .0) (c .loop-test .left) (at-loop .loop .inv .1)
 
 pub find-rivals-spec : {M : Type 1} → statement M
 find-rivals-spec =

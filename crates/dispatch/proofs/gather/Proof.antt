@@ -22,10 +22,18 @@ element-copy-out-i : tie.Need-element-copy-out-i Inv-loop μ-loop
 element-copy-out-i c = omega arith
 
 mul-x : tie.Need-mul-x Inv-loop μ-loop
-mul-x c = omega (arith, c .before .before .before .pre .0 .below (c .before .before .loop .k) (omega arith))
+mul-x c =
+    let in-loop = c .before in
+    let at-loop = in-loop .before in
+    let start = at-loop .before in
+    omega (arith, start .pre .0 .below (at-loop .loop .k) (omega arith))
 
 element-copy-out-x : tie.Need-element-copy-out-x Inv-loop μ-loop
-element-copy-out-x c = omega (arith, c .before .before .before .pre .0 .below (c .before .before .loop .k) (omega arith))
+element-copy-out-x c =
+    let in-loop = c .before in
+    let at-loop = in-loop .before in
+    let start = at-loop .before in
+    omega (arith, start .pre .0 .below (at-loop .loop .k) (omega arith))
 
 mul-few : tie.Need-mul-few Inv-loop μ-loop
 mul-few c = omega arith
@@ -40,10 +48,16 @@ loop-less : tie.Need-loop-less Inv-loop μ-loop
 loop-less c = omega arith
 
 loop-again : tie.Need-loop-again Inv-loop μ-loop
-loop-again c = (omega arith, gathered-more _ _ _ _ (omega (arith, c .before .before .before .before .pre .0 .few)) (c .before .before .before .loop .inv .1))
+loop-again c =
+    let in-loop = c .before .before in
+    let at-loop = in-loop .before in
+    let start = at-loop .before in
+    (omega arith, gathered-more _ _ _ _ (omega (arith, start .pre .0 .few)) (at-loop .loop .inv .1))
 
 returns : tie.Need-returns Inv-loop μ-loop
-returns c = gathered-all _ _ _ _ _ (c .before .loop .inv .0) (c .loop-test .left) (c .before .loop .inv .1)
+returns c =
+    let at-loop = c .before in
+    gathered-all _ _ _ _ _ (at-loop .loop .inv .0) (c .loop-test .left) (at-loop .loop .inv .1)
 
 pub gather-spec : {M : Type 1} → statement M
 gather-spec =

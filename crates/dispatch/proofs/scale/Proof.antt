@@ -4,13 +4,13 @@ use Prim.Native.Nat.{_-_, _≤_}
 use native.Mathlib.Omega.{arith}
 use lib.ListN.{length}
 use Rattle.dispatch.proofs.Scaling.{table-none, table-more, table-all}
-use Rattle.cutoff.specs.Lines.{Table}
+use Rattle.cutoff.specs.Lines.{lanes, Table}
 use borrow.Author.Needs.{needs}
 use Rattle.dispatch.proofs.scale.Statement.{statement}
 use Rattle.dispatch.proofs.scale.Tie as tie
 
 abbrev Inv-loop : tie.InvT-loop
-Inv-loop one step cap n span₀ inv₀ i₀ span inv i = (i ≤ n) × (length span ≡ 32) × (length inv ≡ 32) × Table one step span inv cap i
+Inv-loop one step cap n span₀ inv₀ i₀ span inv i = (i ≤ n) × (length span ≡ lanes) × (length inv ≡ lanes) × Table one step span inv cap i
 
 abbrev μ-loop : tie.MeasureT-loop
 μ-loop one step cap n span₀ inv₀ i₀ span inv i = n - i
@@ -37,7 +37,11 @@ element-copy-out-shaped-3 : tie.Need-element-copy-out-shaped-3 Inv-loop μ-loop
 element-copy-out-shaped-3 c = search needs
 
 shaped-requires : tie.Need-shaped-requires Inv-loop μ-loop
-shaped-requires c κs = c .before .before .before .before .before .pre .0 .falls _ (omega arith)
+shaped-requires c κs =
+    let in-loop = c .before .before .before in
+    let at-loop = in-loop .before in
+    let start = at-loop .before in
+    start .pre .0 .falls _ (omega arith)
 
 mul-span : tie.Need-mul-span Inv-loop μ-loop
 mul-span c = search needs
@@ -59,15 +63,20 @@ loop-less c = search needs
 
 loop-again : tie.Need-loop-again Inv-loop μ-loop
 loop-again c =
-    let h = c .before .before .before .before .before .loop .inv in (
+    let in-loop = c .before .before .before .before in
+    let at-loop = in-loop .before in
+    let start = at-loop .before in
+    let h = at-loop .loop .inv in (
       omega arith,
       search (needs, h .1),
       search (needs, h .2),
-      table-more (h .1) (h .2) (omega (arith, c .before .before .before .before .before .before .pre .0 .n-small)) (h .3) (c .shaped .ensures),
+      table-more (h .1) (h .2) (omega (arith, start .pre .0 .n-small)) (h .3) (c .shaped .ensures),
     )
 
 returns : tie.Need-returns Inv-loop μ-loop
-returns c = table-all (c .before .loop .inv .0) (c .loop-test .left) (c .before .loop .inv .3)
+returns c =
+    let at-loop = c .before in
+    table-all (at-loop .loop .inv .0) (c .loop-test .left) (at-loop .loop .inv .3)
 
 pub scale-spec : {M : Type 1} → statement M
 scale-spec =

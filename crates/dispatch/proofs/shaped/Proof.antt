@@ -17,19 +17,29 @@ mul-t7 : tie.Need-mul-t7
 mul-t7 c = search needs
 
 returns : tie.Need-returns
-returns c = record { falls = c .before .before .before .pre; shape = inl (c .before .before .if1 .taken, c .before .least .ensures, omega (arith, c .less .ensures)) }
+returns c =
+    let after-least = c .before in
+    let then1 = after-least .before in
+    let start = then1 .before in
+    record { falls = start .pre; shape = inl (then1 .if1 .taken, after-least .least .ensures, omega (arith, c .less .ensures)) }
 
 mul-t8 : tie.Need-mul-t8
-mul-t8 c = omega (arith, mul-le-mul (c .before .pre .step-small) (c .before .pre .cap-small))
+mul-t8 c =
+    let start = c .before in
+    omega (arith, mul-le-mul (start .pre .step-small) (start .pre .cap-small))
 
 div-t9 : tie.Need-div-t9
 div-t9 c = search needs
 
 add-t10 : tie.Need-add-t10
-add-t10 c = omega (arith, div-le-self 1099511627776 (c .before .args .step))
+add-t10 c =
+    let start = c .before in
+    omega (arith, div-le-self 1099511627776 (start .args .step))
 
 returns-2 : tie.Need-returns-2
-returns-2 c = record { falls = c .before .pre; shape = inr (omega arith, refl, refl) }
+returns-2 c =
+    let start = c .before in
+    record { falls = start .pre; shape = inr (omega arith, refl, refl) }
 
 pub shaped-spec : {M : Type 1} → statement M
 shaped-spec =

@@ -28,10 +28,18 @@ element-copy-out-x : tie.Need-element-copy-out-x Inv-loop μ-loop
 element-copy-out-x c = omega arith
 
 mul-all : tie.Need-mul-all Inv-loop μ-loop
-mul-all c = omega (arith, c .before .before .before .before .pre .0 .below (c .before .before .before .loop .k) (omega arith))
+mul-all c =
+    let in-loop = c .before .before in
+    let at-loop = in-loop .before in
+    let start = at-loop .before in
+    omega (arith, start .pre .0 .below (at-loop .loop .k) (omega arith))
 
 element-write-all : tie.Need-element-write-all Inv-loop μ-loop
-element-write-all c = omega (arith, c .before .before .before .before .pre .0 .below (c .before .before .before .loop .k) (omega arith))
+element-write-all c =
+    let in-loop = c .before .before in
+    let at-loop = in-loop .before in
+    let start = at-loop .before in
+    omega (arith, start .pre .0 .below (at-loop .loop .k) (omega arith))
 
 add-k : tie.Need-add-k Inv-loop μ-loop
 add-k c = omega arith
@@ -40,10 +48,16 @@ loop-less : tie.Need-loop-less Inv-loop μ-loop
 loop-less c = omega arith
 
 loop-again : tie.Need-loop-again Inv-loop μ-loop
-loop-again c = (omega arith, spread-more _ _ _ _ _ (c .before .before .before .before .pre .0) (omega arith) (c .before .before .before .loop .inv .1))
+loop-again c =
+    let in-loop = c .before .before in
+    let at-loop = in-loop .before in
+    let start = at-loop .before in
+    (omega arith, spread-more _ _ _ _ _ (start .pre .0) (omega arith) (at-loop .loop .inv .1))
 
 returns : tie.Need-returns Inv-loop μ-loop
-returns c = spread-all _ _ _ _ _ (c .before .loop .inv .0) (c .loop-test .left) (c .before .loop .inv .1)
+returns c =
+    let at-loop = c .before in
+    spread-all _ _ _ _ _ (at-loop .loop .inv .0) (c .loop-test .left) (at-loop .loop .inv .1)
 
 pub spread-spec : {M : Type 1} → statement M
 spread-spec =

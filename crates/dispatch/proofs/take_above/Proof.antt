@@ -43,7 +43,11 @@ element-copy-out-count-2 : tie.Need-element-copy-out-count-2 Inv-loop μ-loop
 element-copy-out-count-2 c = search needs
 
 count-requires : tie.Need-count-requires Inv-loop μ-loop
-count-requires c κs = c .before .before .before .before .before .before .pre .1 .0 .scaled _ (omega arith)
+count-requires c κs =
+    let in-loop = c .before .before .before .before in
+    let at-loop = in-loop .before in
+    let start = at-loop .before in
+    start .pre .1 .0 .scaled _ (omega arith)
 
 mul-next : tie.Need-mul-next Inv-loop μ-loop
 mul-next c = search needs
@@ -52,7 +56,11 @@ element-copy-out-next : tie.Need-element-copy-out-next Inv-loop μ-loop
 element-copy-out-next c = search needs
 
 next-requires : tie.Need-next-requires Inv-loop μ-loop
-next-requires c κs = c .before .before .before .before .before .before .before .before .pre .0 .falls _ (omega arith)
+next-requires c κs =
+    let in-loop = c .before .before .before .before .before .before in
+    let at-loop = in-loop .before in
+    let start = at-loop .before in
+    start .pre .0 .falls _ (omega arith)
 
 mul-taken : tie.Need-mul-taken Inv-loop μ-loop
 mul-taken c = search needs
@@ -74,18 +82,23 @@ loop-less c = search needs
 
 loop-again : tie.Need-loop-again Inv-loop μ-loop
 loop-again c =
-    let head = c .before .before .before .before .before .before .before .before .loop in
-    let start = c .before .before .before .before .before .before .before .before .before .pre in (
+    let after-count = c .before .before in
+    let in-loop = after-count .before .before .before .before .before in
+    let at-loop = in-loop .before in
+    let the-start = at-loop .before in
+    let head = at-loop .loop in
+    let start = the-start .pre in (
       omega arith,
-      above-more _ _ _ _ _ _ _ _ _ (start .1 .1 .0) (omega (arith, start .0 .n-small)) (head .inv .1) (c .before .before .count .ensures),
+      above-more _ _ _ _ _ _ _ _ _ (start .1 .1 .0) (omega (arith, start .0 .n-small)) (head .inv .1) (after-count .count .ensures),
       left-grown (head .inv .2) (head .inv .1 .long ∙ start .1 .1 .0) (omega (arith, start .0 .n-small)) (c .next .ensures),
     )
 
 returns : tie.Need-returns Inv-loop μ-loop
-returns c = (
-  above-all _ _ _ _ _ _ _ _ _ (c .before .loop .inv .0) (c .loop-test .left) (c .before .loop .inv .1),
-  left-all (c .before .loop .inv .0) (c .loop-test .left) (c .before .loop .inv .2),
-)
+returns c =
+    let at-loop = c .before in (
+      above-all _ _ _ _ _ _ _ _ _ (at-loop .loop .inv .0) (c .loop-test .left) (at-loop .loop .inv .1),
+      left-all (at-loop .loop .inv .0) (c .loop-test .left) (at-loop .loop .inv .2),
+    )
 
 pub take-above-spec : {M : Type 1} → statement M
 take-above-spec =

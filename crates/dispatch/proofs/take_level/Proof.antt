@@ -17,16 +17,28 @@ sub-if1 : tie.Need-sub-if1 Inv-loop μ-loop
 sub-if1 c = c .pre .1 .going .within
 
 returns : tie.Need-returns Inv-loop μ-loop
-returns c = (c .before .pre .1 .going, omega arith)
+returns c =
+    let start = c .before in
+    (start .pre .1 .going, omega arith)
 
 loop-holds : tie.Need-loop-holds Inv-loop μ-loop
-loop-holds c = (omega arith, omega arith, turns-start (c .before .pre .1))
+loop-holds c =
+    let start = c .before in
+    (omega arith, omega arith, turns-start (start .pre .1))
 
 returns-2 : tie.Need-returns-2 Inv-loop μ-loop
-returns-2 c = (c .before .before .loop .inv .2 .level .going, c .before .before .loop .inv .1)
+returns-2 c =
+    let in-loop = c .before in
+    let at-loop = in-loop .before in
+    (at-loop .loop .inv .2 .level .going, at-loop .loop .inv .1)
 
 take-turn-requires : tie.Need-take-turn-requires Inv-loop μ-loop
-take-turn-requires c κs = (c .before .before .before .before .before .before .pre .0, (c .before .before .before .before .loop .inv .2, (omega arith, omega (arith, c .before .before .if2 .left, c .before .before .before .before .loop .inv .2 .level .going .within))))
+take-turn-requires c κs =
+    let else2 = c .before .before in
+    let in-loop = else2 .before in
+    let at-loop = in-loop .before in
+    let start = at-loop .before .before in
+    (start .pre .0, (at-loop .loop .inv .2, (omega arith, omega (arith, else2 .if2 .left, at-loop .loop .inv .2 .level .going .within))))
 
 add-i : tie.Need-add-i Inv-loop μ-loop
 add-i c = search needs
@@ -35,10 +47,15 @@ loop-less : tie.Need-loop-less Inv-loop μ-loop
 loop-less c = search needs
 
 loop-again : tie.Need-loop-again Inv-loop μ-loop
-loop-again c = (omega arith, omega (arith, c .take-turn .ensures .1, c .before .before .before .before .before .loop .inv .1), c .take-turn .ensures .0)
+loop-again c =
+    let in-loop = c .before .before .before .before in
+    let at-loop = in-loop .before in
+    (omega arith, omega (arith, c .take-turn .ensures .1, at-loop .loop .inv .1), c .take-turn .ensures .0)
 
 returns-3 : tie.Need-returns-3 Inv-loop μ-loop
-returns-3 c = (c .before .loop .inv .2 .level .going, c .before .loop .inv .1)
+returns-3 c =
+    let at-loop = c .before in
+    (at-loop .loop .inv .2 .level .going, at-loop .loop .inv .1)
 
 pub take-level-spec : {M : Type 1} → statement M
 take-level-spec =

@@ -8,8 +8,11 @@ use Rattle.dispatch.proofs.take_turn.Statement.{statement}
 use Rattle.dispatch.proofs.take_turn.Tie as tie
 
 -- the source's next MWh has the merit
-at-merit : (c : tie.Else1) → at (c .before .before .before .args .left .now) (c .before .before .turn .result) ≡ c .before .before .before .args .m
-at-merit c = omega (arith, c .if1 .left, c .before .before .before .pre .1 .0 .level .most _ (c .before .before .turn .ensures .in-range))
+at-merit : (c : tie.Else1) → let after-turn = c .before .before in let start = after-turn .before in at (start .args .left .now) (after-turn .turn .result) ≡ start .args .m
+at-merit c =
+    let after-turn = c .before .before in
+    let start = after-turn .before in
+    omega (arith, c .if1 .left, start .pre .1 .0 .level .most _ (after-turn .turn .ensures .in-range))
 
 turn-requires : tie.Need-turn-requires
 turn-requires c κs = c .pre .1 .1 .0
@@ -18,79 +21,132 @@ mul-if1 : tie.Need-mul-if1
 mul-if1 c = search needs
 
 element-copy-out-if1 : tie.Need-element-copy-out-if1
-element-copy-out-if1 c = omega (arith, c .turn .ensures .in-range, c .before .pre .0 .n-small)
+element-copy-out-if1 c =
+    let start = c .before in
+    omega (arith, c .turn .ensures .in-range, start .pre .0 .n-small)
 
 returns : tie.Need-returns
-returns c = (turns-keep (c .before .before .before .pre .1 .0) (c .before .before .turn .ensures) (c .if1 .taken), omega arith)
+returns c =
+    let after-turn = c .before .before in
+    let start = after-turn .before in
+    (turns-keep (start .pre .1 .0) (after-turn .turn .ensures) (c .if1 .taken), omega arith)
 
 mul-k : tie.Need-mul-k
 mul-k c = search needs
 
 element-copy-out-k : tie.Need-element-copy-out-k
-element-copy-out-k c = omega (arith, c .before .before .turn .ensures .in-range, c .before .before .before .pre .0 .n-small)
+element-copy-out-k c =
+    let after-turn = c .before .before in
+    let start = after-turn .before in
+    omega (arith, after-turn .turn .ensures .in-range, start .pre .0 .n-small)
 
 mul-block : tie.Need-mul-block
 mul-block c = search needs
 
 element-copy-out-block : tie.Need-element-copy-out-block
-element-copy-out-block c = omega (arith, c .before .before .before .turn .ensures .in-range, c .before .before .before .before .pre .0 .n-small)
+element-copy-out-block c =
+    let after-turn = c .before .before .before in
+    let start = after-turn .before in
+    omega (arith, after-turn .turn .ensures .in-range, start .pre .0 .n-small)
 
 mul-block-2 : tie.Need-mul-block-2
 mul-block-2 c = search needs
 
 element-copy-out-block-2 : tie.Need-element-copy-out-block-2
-element-copy-out-block-2 c = omega (arith, c .before .before .before .before .turn .ensures .in-range, c .before .before .before .before .before .pre .0 .n-small)
+element-copy-out-block-2 c =
+    let after-turn = c .before .before .before .before in
+    let start = after-turn .before in
+    omega (arith, after-turn .turn .ensures .in-range, start .pre .0 .n-small)
 
 sub-block : tie.Need-sub-block
-sub-block c = omega (arith, c .before .before .before .before .before .before .pre .1 .1 .1)
+sub-block c =
+    let start = c .before .before .before .before .before .before in
+    omega (arith, start .pre .1 .1 .1)
 
 block-requires : tie.Need-block-requires
-block-requires c κs = (turns-choice (c .before .before .before .before .before .before .pre .1 .0) (c .before .before .before .before .before .before .pre .1 .1 .1) (c .before .before .before .before .before .turn .ensures) (at-merit (c .before .before .before)) .some (c .before .before .before .before .before .turn .ensures .in-range) .room, omega (arith, c .before .before .before .before .before .before .pre .1 .1 .1))
+block-requires c κs =
+    let else1 = c .before .before .before in
+    let after-turn = else1 .before .before in
+    let start = after-turn .before in
+    (turns-choice (start .pre .1 .0) (start .pre .1 .1 .1) (after-turn .turn .ensures) (at-merit else1) .some (after-turn .turn .ensures .in-range) .room, omega (arith, start .pre .1 .1 .1))
 
 add-taken : tie.Need-add-taken
-add-taken c = omega (arith, c .block .ensures .room, c .before .before .before .before .before .before .before .pre .0 .falls _ (c .before .before .before .before .before .before .turn .ensures .in-range) .cap-small)
+add-taken c =
+    let after-turn = c .before .before .before .before .before .before in
+    let start = after-turn .before in
+    omega (arith, c .block .ensures .room, start .pre .0 .falls _ (after-turn .turn .ensures .in-range) .cap-small)
 
 mul-taken : tie.Need-mul-taken
 mul-taken c = search needs
 
 element-write-taken : tie.Need-element-write-taken
-element-write-taken c = omega (arith, c .before .before .before .before .before .before .turn .ensures .in-range, c .before .before .before .before .before .before .before .pre .0 .n-small)
+element-write-taken c =
+    let after-turn = c .before .before .before .before .before .before in
+    let start = after-turn .before in
+    omega (arith, after-turn .turn .ensures .in-range, start .pre .0 .n-small)
 
 mul-next : tie.Need-mul-next
 mul-next c = search needs
 
 element-copy-out-next : tie.Need-element-copy-out-next
-element-copy-out-next c = omega (arith, c .before .before .before .before .before .before .turn .ensures .in-range, c .before .before .before .before .before .before .before .pre .0 .n-small)
+element-copy-out-next c =
+    let after-turn = c .before .before .before .before .before .before in
+    let start = after-turn .before in
+    omega (arith, after-turn .turn .ensures .in-range, start .pre .0 .n-small)
 
 mul-next-2 : tie.Need-mul-next-2
 mul-next-2 c = search needs
 
 element-copy-out-next-2 : tie.Need-element-copy-out-next-2
-element-copy-out-next-2 c = omega (arith, c .before .before .before .before .before .before .before .turn .ensures .in-range, c .before .before .before .before .before .before .before .before .pre .0 .n-small)
+element-copy-out-next-2 c =
+    let after-turn = c .before .before .before .before .before .before .before in
+    let start = after-turn .before in
+    omega (arith, after-turn .turn .ensures .in-range, start .pre .0 .n-small)
 
 mul-next-3 : tie.Need-mul-next-3
 mul-next-3 c = search needs
 
 element-copy-out-next-3 : tie.Need-element-copy-out-next-3
-element-copy-out-next-3 c = omega (arith, c .before .before .before .before .before .before .before .before .turn .ensures .in-range, c .before .before .before .before .before .before .before .before .before .pre .0 .n-small)
+element-copy-out-next-3 c =
+    let after-turn = c .before .before .before .before .before .before .before .before in
+    let start = after-turn .before in
+    omega (arith, after-turn .turn .ensures .in-range, start .pre .0 .n-small)
 
 add-next : tie.Need-add-next
-add-next c = omega (arith, c .before .before .before .block .ensures .room, c .before .before .before .before .before .before .before .before .before .before .pre .0 .falls _ (c .before .before .before .before .before .before .before .before .before .turn .ensures .in-range) .cap-small)
+add-next c =
+    let after-block = c .before .before .before in
+    let after-turn = after-block .before .before .before .before .before .before in
+    let start = after-turn .before in
+    omega (arith, after-block .block .ensures .room, start .pre .0 .falls _ (after-turn .turn .ensures .in-range) .cap-small)
 
 next-requires : tie.Need-next-requires
-next-requires c κs = c .before .before .before .before .before .before .before .before .before .before .pre .0 .falls _ (c .before .before .before .before .before .before .before .before .before .turn .ensures .in-range)
+next-requires c κs =
+    let after-turn = c .before .before .before .before .before .before .before .before .before in
+    let start = after-turn .before in
+    start .pre .0 .falls _ (after-turn .turn .ensures .in-range)
 
 mul-left : tie.Need-mul-left
 mul-left c = search needs
 
 element-write-left : tie.Need-element-write-left
-element-write-left c = omega (arith, c .before .before .before .before .before .before .before .before .before .before .turn .ensures .in-range, c .before .before .before .before .before .before .before .before .before .before .before .pre .0 .n-small)
+element-write-left c =
+    let after-turn = c .before .before .before .before .before .before .before .before .before .before in
+    let start = after-turn .before in
+    omega (arith, after-turn .turn .ensures .in-range, start .pre .0 .n-small)
 
 add-result : tie.Need-add-result
-add-result c = omega (arith, c .before .before .before .before .block .ensures .within, c .before .before .before .before .before .before .before .before .before .before .before .pre .1 .1 .1, c .before .before .before .before .before .before .before .before .before .before .before .fits .total)
+add-result c =
+    let after-block = c .before .before .before .before in
+    let start = after-block .before .before .before .before .before .before .before in
+    omega (arith, after-block .block .ensures .within, start .pre .1 .1 .1, start .fits .total)
 
 returns-2 : tie.Need-returns-2
-returns-2 c = (turns-take (c .before .before .before .before .before .before .before .before .before .before .before .pre .0 .n-small) (c .before .before .before .before .before .before .before .before .before .before .before .pre .1 .0) (c .before .before .before .before .before .before .before .before .before .before .before .pre .1 .1 .1) (c .before .before .before .before .before .before .before .before .before .before .turn .ensures) (at-merit (c .before .before .before .before .before .before .before .before)) (c .before .before .before .before .block .ensures) (c .next .ensures), omega arith)
+returns-2 c =
+    let after-block = c .before .before .before .before in
+    let else1 = after-block .before .before .before .before in
+    let after-turn = else1 .before .before in
+    let start = after-turn .before in
+    (turns-take (start .pre .0 .n-small) (start .pre .1 .0) (start .pre .1 .1 .1) (after-turn .turn .ensures) (at-merit else1) (after-block .block .ensures) (c .next .ensures), omega arith)
 
 pub take-turn-spec : {M : Type 1} → statement M
 take-turn-spec =

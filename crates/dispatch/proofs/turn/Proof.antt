@@ -11,10 +11,14 @@ sub-result-2 : tie.Need-sub-result-2
 sub-result-2 c = search needs
 
 returns : tie.Need-returns
-returns c = rw (c .if1 .taken) (turn-up _ _ (c .before .pre))
+returns c =
+    let start = c .before in
+    rw (c .if1 .taken) (turn-up _ _ (start .pre))
 
 returns-2 : tie.Need-returns-2
-returns-2 c = rw (c .if1 .left) (turn-down _ _ (c .before .pre))
+returns-2 c =
+    let start = c .before in
+    rw (c .if1 .left) (turn-down _ _ (start .pre))
 
 pub turn-spec : {M : Type 1} → statement M
 turn-spec = tie.close (tie.spec sub-result sub-result-2 returns returns-2)

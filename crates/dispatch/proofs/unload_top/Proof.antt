@@ -5,7 +5,9 @@ use Rattle.dispatch.proofs.unload_top.Statement.{statement}
 use Rattle.dispatch.proofs.unload_top.Tie as tie
 
 returns : tie.Need-returns
-returns c = none-lined (c .before .pre .0) _ _ _ _ (c .if1 .taken)
+returns c =
+    let start = c .before in
+    none-lined (start .pre .0) _ _ _ _ (c .if1 .taken)
 
 price-at-requires : tie.Need-price-at-requires
 price-at-requires c κs = search needs

@@ -1,579 +1,502 @@
--- `turns::take_turns` meets its contract: the deliveries passed are listed, then the sources passed are opened, then have their lines; between turns all numbers from x up are done and the lines are those of the states;
--- in a turn the D lines passed are taken, then the sources passed are moved, and the lead's row holds what was taken of each source.
+-- `groups::take_turns` meets its contract: the sources passed are opened and have their lines; between turns all keys from x up are done and the lines are those of the states;
+-- in a turn the D lines passed are taken, then the sources passed are moved, and the lead's row has where each source went.
 use mathlib.Core.List.{map}
 use mathlib.Core.Logic.{⊎-elim}
-use mathlib.Core.Path.{_≡_, refl, sym, _∙_}
+use mathlib.Core.Path.{_≡_, refl, sym, ap, _∙_}
 use Prim.Native.Nat.{_-_, _*_, _≤_, _<_}
 use native.Mathlib.Omega.{arith}
 use borrow.Author.Needs.{needs}
 use lib.Dec.{ltb}
-use lib.ListN.{length, length-set}
-use Rattle.amounts.specs.Amounts.{Amounts, Elsewhere, elsewhere-none, elsewhere-set, direct-fits, amounts-direct}
-use Rattle.group.specs.FirstWay.{FirstLines, lines-none, lines-next, lines-all, lines-renewed, first-sources, Rest, first-rest, shifted-plant}
-use Rattle.members.specs.Members.{MwhsOf, mwhs-small, total-scheduled}
-use Rattle.merit.specs.LevelNeverBelowB.{stateAt, Took}
-use Rattle.merit.specs.NumbersStaySmall.{level-small}
+use lib.ListN.{length, getD, length-set}
 use Rattle.cutoff.specs.Lines.{at}
-use Rattle.groups.specs.AllMoved.{Retold, retold-none, retold-more}
-use Rattle.groups.specs.GroupTurns.{past, past-there, past-most, accepted-outcome, TurnFits, Worked, Rested, turn-lines, turn-ready, turn-start, turn-deliveries, turn-blank, turn-within, turn-done, turn-refused, Between, between-start, between-next, between-fits, all-turned}
-use Rattle.groups.specs.LinesTaken.{lineAt, LinesFit, LineFits, line-took, line-directs, LinesTaken, taken-none, taken-skip, taken-all, taken-took, taken-ready, taken-small, taken-take, line-fits}
-use Rattle.groups.specs.MwhsListed.{Mwhs, mwhs-none, mwhs-more, mwhs-all, hour-mwhs}
-use Rattle.groups.specs.StatesOpened.{Opened, opened-none, opened-more, opened-all}
-use Rattle.groups.specs.StatesStayReady.{start-ready, remainder-long}
+use Rattle.group.specs.FirstWay.{FirstLines, lines-none, lines-all, lines-renewed, first-sources, Rest, first-rest, shifted-plant}
+use Rattle.groups.specs.GroupTurns.{past, past-there, past-most, accepted-outcome, TurnFits, Worked, Rested, turn-lines, turn-ready, turn-start, turn-deliveries, turn-blank, turn-within, turn-members, turn-done, turn-refused, Between, between-start, between-next, between-fits, all-turned}
+use Rattle.groups.specs.LinesTaken.{lineAt, LinesFit, LineFits, line-took, line-directs, LinesTaken, taken-none, taken-skip, taken-all, taken-ready, taken-small, taken-take, line-fits}
+use Rattle.groups.specs.RowKept.{RowKept, Carried, ready-stands, row-more}
+use Rattle.groups.specs.StatesOpened.{Opened, opened-none, opened-more, opened-all, lines-opened}
+use Rattle.groups.specs.StatesStayReady.{source-ready, remainder-long}
+use Rattle.ladder.specs.Ready.{Ready, AllReady, stepOf, took-ready, remainder-ready, Shifted, shifted-none, shifted-more, shifted-skip, shifted-all}
+use Rattle.members.specs.Members.{mwhs-small, total-scheduled}
+use Rattle.merit.specs.LevelNeverBelowB.{stateAt, Took}
 use Rattle.roundtrip.specs.GivenHour.{valid-given}
 use Rattle.rules.specs.Group.{remainder, opened}
 use Rattle.rules.specs.Hour.{member}
+use Rattle.rules.specs.Record.{noSource}
 use Rattle.rules.specs.Refusals.{accepted}
-use Rattle.ladder.specs.Ready.{Ready, AllReady, took-ready, remainder-ready, Shifted, shifted-none, shifted-more, shifted-skip, shifted-all}
+use Rattle.rules.specs.declared.Running.{Running}
 use Rattle.groups.proofs.take_turns.Statement.{statement}
 use Rattle.groups.proofs.take_turns.Tie as tie
 
 abbrev Inv-loop : tie.InvT-loop
-Inv-loop by-price mwhs₀ led direct moved h numbers n m j₀ mwhs j = (j ≤ m) × Mwhs (h .deliveries) j mwhs
+Inv-loop by-price mwhs led kept h keys n states₀ step₀ down₀ room₀ above₀ head₀ a₀ states step down room above head a =
+    (a ≤ n) × Opened (h .sources) a states × FirstLines states step down room above head a
 
 abbrev μ-loop : tie.MeasureT-loop
-μ-loop by-price mwhs₀ led direct moved h numbers n m j₀ mwhs j = m - j
-
-abbrev Inv-loop2 : tie.InvT-loop2
-Inv-loop2 by-price mwhs led direct moved h numbers n m j states₀ a₀ states a = (a ≤ 32) × Opened (h .sources) a states
-
-abbrev μ-loop2 : tie.MeasureT-loop2
-μ-loop2 by-price mwhs led direct moved h numbers n m j states₀ a₀ states a = 32 - a
+μ-loop by-price mwhs led kept h keys n states₀ step₀ down₀ room₀ above₀ head₀ a₀ states step down room above head a = n - a
 
 abbrev Inv-loop3 : tie.InvT-loop3
-Inv-loop3 by-price mwhs led direct moved h numbers n m j states a step₀ down₀ room₀ above₀ head₀ b₀ step down room above head b = (b ≤ n) × FirstLines states step down room above head b
+Inv-loop3 by-price mwhs led kept₀ h keys n states₀ step down₀ room₀ above₀ head₀ a key lead k took₀ q₀ kept states down room above head took q =
+    (q ≤ k) × LinesTaken (member keys key) (h .directs) states₀ n q states took × RowKept lead n states₀ kept₀ states kept × FirstLines states step down room above head n × (length states ≡ 32)
 
 abbrev μ-loop3 : tie.MeasureT-loop3
-μ-loop3 by-price mwhs led direct moved h numbers n m j states a step₀ down₀ room₀ above₀ head₀ b₀ step down room above head b = n - b
-
-abbrev Inv-loop5 : tie.InvT-loop5
-Inv-loop5 by-price mwhs led direct₀ moved h numbers n m j states₀ a step down₀ room₀ above₀ head₀ b number k lead took₀ q₀ direct states down room above head took q =
-    (q ≤ k) × LinesTaken (member numbers number) (h .directs) states₀ n q states took × Amounts states₀ states states n (lead * 32) direct moved × Elsewhere lead direct₀ direct ×
-    FirstLines states step down room above head n × (length states ≡ 32)
-
-abbrev μ-loop5 : tie.MeasureT-loop5
-μ-loop5 by-price mwhs led direct₀ moved h numbers n m j states₀ a step down₀ room₀ above₀ head₀ b number k lead took₀ q₀ direct states down room above head took q = k - q
-
-abbrev Inv-loop6 : tie.InvT-loop6
-Inv-loop6 by-price mwhs led direct moved₀ h numbers n m j states₀ a step down₀ room₀ above₀ head₀ b number k lead took q total up rest taken enough i₀ moved states down room above head i =
-    (i ≤ n) × Shifted up states₀ i (at taken) states × Retold states₀ states n lead moved₀ moved × FirstLines states step down room above head n × (length states ≡ 32)
-
-abbrev μ-loop6 : tie.MeasureT-loop6
-μ-loop6 by-price mwhs led direct moved₀ h numbers n m j states₀ a step down₀ room₀ above₀ head₀ b number k lead took q total up rest taken enough i₀ moved states down room above head i = n - i
+μ-loop3 by-price mwhs led kept₀ h keys n states₀ step down₀ room₀ above₀ head₀ a key lead k took₀ q₀ kept states down room above head took q = k - q
 
 abbrev Inv-loop4 : tie.InvT-loop4
-Inv-loop4 by-price mwhs led₀ direct₀ moved₀ h numbers n m j states₀ a step₀ down₀ room₀ above₀ head₀ b next₀ led direct moved states step down room above head next =
-    Between h numbers next states led direct moved × FirstLines states step down room above head n × (length states ≡ 32)
+Inv-loop4 by-price mwhs led kept₀ h keys n states₀ step down₀ room₀ above₀ head₀ a key lead k took q total up rest taken enough i₀ kept states down room above head i =
+    (i ≤ n) × Shifted up states₀ i (at taken) states × Carried lead n states₀ kept₀ states kept × FirstLines states step down room above head n × (length states ≡ 32)
 
 abbrev μ-loop4 : tie.MeasureT-loop4
-μ-loop4 by-price mwhs led₀ direct₀ moved₀ h numbers n m j states₀ a step₀ down₀ room₀ above₀ head₀ b next₀ led direct moved states step down room above head next = past next
+μ-loop4 by-price mwhs led kept₀ h keys n states₀ step down₀ room₀ above₀ head₀ a key lead k took q total up rest taken enough i₀ kept states down room above head i = n - i
 
--- From place to place: where the hour starts, where a group's turn does, its D lines, and its total.
+abbrev Inv-loop2 : tie.InvT-loop2
+Inv-loop2 by-price mwhs led₀ kept₀ h keys n states₀ step₀ down₀ room₀ above₀ head₀ a next₀ led kept states step down room above head next =
+    Between h keys next states led kept × FirstLines states step down room above head n × (length states ≡ 32)
 
-abbrev the-start : tie.In-loop4 Inv-loop μ-loop Inv-loop2 μ-loop2 Inv-loop3 μ-loop3 Inv-loop5 μ-loop5 Inv-loop6 μ-loop6 Inv-loop4 μ-loop4 → tie.Start Inv-loop μ-loop Inv-loop2 μ-loop2 Inv-loop3 μ-loop3 Inv-loop5 μ-loop5 Inv-loop6 μ-loop6 Inv-loop4 μ-loop4
-the-start c = c .before .before .before .before .before .before .before .before .before .before
+abbrev μ-loop2 : tie.MeasureT-loop2
+μ-loop2 by-price mwhs led₀ kept₀ h keys n states₀ step₀ down₀ room₀ above₀ head₀ a next₀ led kept states step down room above head next = past next
 
-abbrev the-turn : tie.At-loop5 Inv-loop μ-loop Inv-loop2 μ-loop2 Inv-loop3 μ-loop3 Inv-loop5 μ-loop5 Inv-loop6 μ-loop6 Inv-loop4 μ-loop4 → tie.In-loop4 Inv-loop μ-loop Inv-loop2 μ-loop2 Inv-loop3 μ-loop3 Inv-loop5 μ-loop5 Inv-loop6 μ-loop6 Inv-loop4 μ-loop4
+-- From place to place: the start, the sources opened, a group's turn, its D lines, its total, and whether the first way has room.
+
+abbrev Start : Type 0
+Start = tie.Start Inv-loop μ-loop Inv-loop3 μ-loop3 Inv-loop4 μ-loop4 Inv-loop2 μ-loop2
+
+abbrev Opening : Type 0
+Opening = tie.After-loop Inv-loop μ-loop Inv-loop3 μ-loop3 Inv-loop4 μ-loop4 Inv-loop2 μ-loop2
+
+abbrev Turn : Type 0
+Turn = tie.In-loop2 Inv-loop μ-loop Inv-loop3 μ-loop3 Inv-loop4 μ-loop4 Inv-loop2 μ-loop2
+
+abbrev Lines : Type 0
+Lines = tie.At-loop3 Inv-loop μ-loop Inv-loop3 μ-loop3 Inv-loop4 μ-loop4 Inv-loop2 μ-loop2
+
+abbrev Total : Type 0
+Total = tie.After-total-of Inv-loop μ-loop Inv-loop3 μ-loop3 Inv-loop4 μ-loop4 Inv-loop2 μ-loop2
+
+abbrev First : Type 0
+First = tie.After-take-first Inv-loop μ-loop Inv-loop3 μ-loop3 Inv-loop4 μ-loop4 Inv-loop2 μ-loop2
+
+abbrev the-start : Opening → Start
+the-start c = c .before .before .before
+
+abbrev the-opening : Turn → Opening
+the-opening c = c .before .before .before
+
+abbrev the-turn : Lines → Turn
 the-turn c = c .before .before .before
 
-abbrev the-lines : tie.After-total-of Inv-loop μ-loop Inv-loop2 μ-loop2 Inv-loop3 μ-loop3 Inv-loop5 μ-loop5 Inv-loop6 μ-loop6 Inv-loop4 μ-loop4 → tie.At-loop5 Inv-loop μ-loop Inv-loop2 μ-loop2 Inv-loop3 μ-loop3 Inv-loop5 μ-loop5 Inv-loop6 μ-loop6 Inv-loop4 μ-loop4
-the-lines c = c .before .before .before
+abbrev the-lines : Total → Lines
+the-lines c = c .before .before
 
-abbrev the-total : tie.After-take-first Inv-loop μ-loop Inv-loop2 μ-loop2 Inv-loop3 μ-loop3 Inv-loop5 μ-loop5 Inv-loop6 μ-loop6 Inv-loop4 μ-loop4 → tie.After-total-of Inv-loop μ-loop Inv-loop2 μ-loop2 Inv-loop3 μ-loop3 Inv-loop5 μ-loop5 Inv-loop6 μ-loop6 Inv-loop4 μ-loop4
+abbrev the-total : First → Total
 the-total c = c .before .before .before .before .before .before .before .before
 
-loop-holds : tie.Need-loop-holds Inv-loop μ-loop Inv-loop2 μ-loop2 Inv-loop3 μ-loop3 Inv-loop5 μ-loop5 Inv-loop6 μ-loop6 Inv-loop4 μ-loop4
-loop-holds c = (omega arith, mwhs-none _ _ (c .pre .1))
+abbrev start-of : Turn → Start
+start-of c = the-start (the-opening c)
 
-mul-t : tie.Need-mul-t Inv-loop μ-loop Inv-loop2 μ-loop2 Inv-loop3 μ-loop3 Inv-loop5 μ-loop5 Inv-loop6 μ-loop6 Inv-loop4 μ-loop4
-mul-t c =
-    let start = c .before .before in
-    omega (arith, valid-given _ (start .pre .0) .deliveries .few)
+-- The sources opened.
 
-element-copy-out-t : tie.Need-element-copy-out-t Inv-loop μ-loop Inv-loop2 μ-loop2 Inv-loop3 μ-loop3 Inv-loop5 μ-loop5 Inv-loop6 μ-loop6 Inv-loop4 μ-loop4
-element-copy-out-t c =
-    let start = c .before .before in
-    omega (arith, valid-given _ (start .pre .0) .deliveries .few, c .loop-test .taken)
+open-requires : tie.Need-open-requires Inv-loop μ-loop Inv-loop3 μ-loop3 Inv-loop4 μ-loop4 Inv-loop2 μ-loop2
+open-requires c κs = search needs
 
-mul-mwhs : tie.Need-mul-mwhs Inv-loop μ-loop Inv-loop2 μ-loop2 Inv-loop3 μ-loop3 Inv-loop5 μ-loop5 Inv-loop6 μ-loop6 Inv-loop4 μ-loop4
-mul-mwhs c =
-    let start = c .before .before .before .before in
-    omega (arith, valid-given _ (start .pre .0) .deliveries .few)
+loop-holds : tie.Need-loop-holds Inv-loop μ-loop Inv-loop3 μ-loop3 Inv-loop4 μ-loop4 Inv-loop2 μ-loop2
+loop-holds c = (omega arith, opened-none _ _ (c .open .ensures), lines-none refl refl refl refl refl)
 
-element-write-mwhs : tie.Need-element-write-mwhs Inv-loop μ-loop Inv-loop2 μ-loop2 Inv-loop3 μ-loop3 Inv-loop5 μ-loop5 Inv-loop6 μ-loop6 Inv-loop4 μ-loop4
-element-write-mwhs c =
+few-sources : (c : Start) → c .args .t1 .nsources ≤ 32
+few-sources c = valid-given _ (c .pre .0) .sources .few
+
+few-deliveries : (c : Start) → c .args .t1 .ndeliveries ≤ 32
+few-deliveries c = valid-given _ (c .pre .0) .deliveries .few
+
+-- a source that is opened
+a-small : (c : tie.In-loop Inv-loop μ-loop Inv-loop3 μ-loop3 Inv-loop4 μ-loop4 Inv-loop2 μ-loop2) → c .before .loop .a < 32
+a-small c = omega (arith, c .loop-test .taken, few-sources (c .before .before .before))
+
+its-opened : (c : tie.After-open2 Inv-loop μ-loop Inv-loop3 μ-loop3 Inv-loop4 μ-loop4 Inv-loop2 μ-loop2) → let in-loop = c .before .before in let start = in-loop .before .before .before in c .open2 .result ≡ opened (getD (start .args .t1 .sources) (in-loop .before .loop .a) noSource .plant)
+its-opened c = c .open2 .ensures
+
+opened-ready : (c : tie.After-open2 Inv-loop μ-loop Inv-loop3 μ-loop3 Inv-loop4 μ-loop4 Inv-loop2 μ-loop2) → Ready (c .open2 .result)
+opened-ready c =
     let in-loop = c .before .before in
-    let start = in-loop .before .before in
-    omega (arith, valid-given _ (start .pre .0) .deliveries .few, in-loop .loop-test .taken)
+    let start = in-loop .before .before .before in
+    rw (its-opened c) (source-ready (start .args .t1) (start .pre .0) (in-loop .before .loop .a))
 
-add-j : tie.Need-add-j Inv-loop μ-loop Inv-loop2 μ-loop2 Inv-loop3 μ-loop3 Inv-loop5 μ-loop5 Inv-loop6 μ-loop6 Inv-loop4 μ-loop4
-add-j c =
+mul-source : tie.Need-mul-source Inv-loop μ-loop Inv-loop3 μ-loop3 Inv-loop4 μ-loop4 Inv-loop2 μ-loop2
+mul-source c = omega (arith, a-small c)
+
+element-copy-out-source : tie.Need-element-copy-out-source Inv-loop μ-loop Inv-loop3 μ-loop3 Inv-loop4 μ-loop4 Inv-loop2 μ-loop2
+element-copy-out-source c = a-small c
+
+open-requires-2 : tie.Need-open-requires-2 Inv-loop μ-loop Inv-loop3 μ-loop3 Inv-loop4 μ-loop4 Inv-loop2 μ-loop2
+open-requires-2 c κs = search needs
+
+mul-states : tie.Need-mul-states Inv-loop μ-loop Inv-loop3 μ-loop3 Inv-loop4 μ-loop4 Inv-loop2 μ-loop2
+mul-states c = omega (arith, a-small (c .before .before))
+
+array-set-from-states : tie.Need-array-set-from-states Inv-loop μ-loop Inv-loop3 μ-loop3 Inv-loop4 μ-loop4 Inv-loop2 μ-loop2
+array-set-from-states c = a-small (c .before .before)
+
+step-of-requires : tie.Need-step-of-requires Inv-loop μ-loop Inv-loop3 μ-loop3 Inv-loop4 μ-loop4 Inv-loop2 μ-loop2
+step-of-requires c κs =
     let in-loop = c .before .before in
-    let start = in-loop .before .before in
-    omega (arith, valid-given _ (start .pre .0) .deliveries .few, in-loop .loop-test .taken)
+    let start = in-loop .before .before .before in
+    source-ready (start .args .t1) (start .pre .0) (in-loop .before .loop .a) .small .plant
 
-loop-less : tie.Need-loop-less Inv-loop μ-loop Inv-loop2 μ-loop2 Inv-loop3 μ-loop3 Inv-loop5 μ-loop5 Inv-loop6 μ-loop6 Inv-loop4 μ-loop4
+mul-step : tie.Need-mul-step Inv-loop μ-loop Inv-loop3 μ-loop3 Inv-loop4 μ-loop4 Inv-loop2 μ-loop2
+mul-step c = omega (arith, a-small (c .before .before .before))
+
+array-write-step : tie.Need-array-write-step Inv-loop μ-loop Inv-loop3 μ-loop3 Inv-loop4 μ-loop4 Inv-loop2 μ-loop2
+array-write-step c = a-small (c .before .before .before)
+
+renew-requires : tie.Need-renew-requires Inv-loop μ-loop Inv-loop3 μ-loop3 Inv-loop4 μ-loop4 Inv-loop2 μ-loop2
+renew-requires c κs =
+    let at-open = c .before .before .before .before .before in
+    (a-small (at-open .before .before), opened-ready at-open)
+
+add-a : tie.Need-add-a Inv-loop μ-loop Inv-loop3 μ-loop3 Inv-loop4 μ-loop4 Inv-loop2 μ-loop2
+add-a c =
+    let in-loop = c .before .before .before .before .before .before .before .before in
+    omega (arith, a-small in-loop)
+
+loop-less : tie.Need-loop-less Inv-loop μ-loop Inv-loop3 μ-loop3 Inv-loop4 μ-loop4 Inv-loop2 μ-loop2
 loop-less c =
-    let in-loop = c .before .before in
+    let in-loop = c .before .before .before .before .before .before .before .before in
     omega (arith, in-loop .loop-test .taken)
 
-loop-again : tie.Need-loop-again Inv-loop μ-loop Inv-loop2 μ-loop2 Inv-loop3 μ-loop3 Inv-loop5 μ-loop5 Inv-loop6 μ-loop6 Inv-loop4 μ-loop4
+loop-again : tie.Need-loop-again Inv-loop μ-loop Inv-loop3 μ-loop3 Inv-loop4 μ-loop4 Inv-loop2 μ-loop2
 loop-again c =
-    let in-loop = c .before .before in
-    let at-loop = in-loop .before in
-    let start = at-loop .before in
-    (omega (arith, in-loop .loop-test .taken), mwhs-more _ _ _ (omega (arith, valid-given _ (start .pre .0) .deliveries .few, in-loop .loop-test .taken)) (at-loop .loop .inv .1))
-
-loop2-holds : tie.Need-loop2-holds Inv-loop μ-loop Inv-loop2 μ-loop2 Inv-loop3 μ-loop3 Inv-loop5 μ-loop5 Inv-loop6 μ-loop6 Inv-loop4 μ-loop4
-loop2-holds c = (omega arith, opened-none _ _ refl)
-
-loop2-again : tie.Need-loop2-again Inv-loop μ-loop Inv-loop2 μ-loop2 Inv-loop3 μ-loop3 Inv-loop5 μ-loop5 Inv-loop6 μ-loop6 Inv-loop4 μ-loop4
-loop2-again c =
-    let at-loop2 = c .before .before .before in
-    (omega arith, opened-more _ _ _ _ (omega arith) (at-loop2 .loop2 .inv .1) (c .open2 .ensures))
-
-all-opened : (c : tie.After-loop2 Inv-loop μ-loop Inv-loop2 μ-loop2 Inv-loop3 μ-loop3 Inv-loop5 μ-loop5 Inv-loop6 μ-loop6 Inv-loop4 μ-loop4) → let start = c .before .before .before .before .before in (c .before) .loop2 .states ≡ map (λ s. opened (s .plant)) (start .args .t1 .sources)
-all-opened c =
-    let start = c .before .before .before .before .before in
-    opened-all _ _ _ (valid-given _ (start .pre .0) .sources .size) (c .loop2-test .left) (c .before .loop2 .inv .1)
-
-opens : (c : tie.After-loop2 Inv-loop μ-loop Inv-loop2 μ-loop2 Inv-loop3 μ-loop3 Inv-loop5 μ-loop5 Inv-loop6 μ-loop6 Inv-loop4 μ-loop4) → let start = c .before .before .before .before .before in AllReady (c .before .loop2 .states) (start .args .t1 .nsources)
-opens c =
-    let start = c .before .before .before .before .before in
-    start-ready _ (start .pre .0) _ (all-opened c)
-
-loop3-holds : tie.Need-loop3-holds Inv-loop μ-loop Inv-loop2 μ-loop2 Inv-loop3 μ-loop3 Inv-loop5 μ-loop5 Inv-loop6 μ-loop6 Inv-loop4 μ-loop4
-loop3-holds c = (omega arith, lines-none refl refl refl refl refl)
-
-mul-s-2 : tie.Need-mul-s-2 Inv-loop μ-loop Inv-loop2 μ-loop2 Inv-loop3 μ-loop3 Inv-loop5 μ-loop5 Inv-loop6 μ-loop6 Inv-loop4 μ-loop4
-mul-s-2 c =
-    let past-loop2 = c .before .before in
-    omega (arith, opens past-loop2 .n-small)
-
-array-copy-out-s : tie.Need-array-copy-out-s Inv-loop μ-loop Inv-loop2 μ-loop2 Inv-loop3 μ-loop3 Inv-loop5 μ-loop5 Inv-loop6 μ-loop6 Inv-loop4 μ-loop4
-array-copy-out-s c =
-    let past-loop2 = c .before .before in
-    omega (arith, opens past-loop2 .n-small, c .loop3-test .taken)
-
-step-of-requires : tie.Need-step-of-requires Inv-loop μ-loop Inv-loop2 μ-loop2 Inv-loop3 μ-loop3 Inv-loop5 μ-loop5 Inv-loop6 μ-loop6 Inv-loop4 μ-loop4
-step-of-requires c κs =
-    let past-loop2 = c .before .before .before in
-    opens past-loop2 .ready _ .small .plant
-
-mul-step : tie.Need-mul-step Inv-loop μ-loop Inv-loop2 μ-loop2 Inv-loop3 μ-loop3 Inv-loop5 μ-loop5 Inv-loop6 μ-loop6 Inv-loop4 μ-loop4
-mul-step c =
-    let past-loop2 = c .before .before .before .before in
-    omega (arith, opens past-loop2 .n-small)
-
-array-write-step : tie.Need-array-write-step Inv-loop μ-loop Inv-loop2 μ-loop2 Inv-loop3 μ-loop3 Inv-loop5 μ-loop5 Inv-loop6 μ-loop6 Inv-loop4 μ-loop4
-array-write-step c =
-    let in-loop3 = c .before .before in
-    let past-loop2 = in-loop3 .before .before in
-    omega (arith, opens past-loop2 .n-small, in-loop3 .loop3-test .taken)
-
-renew-requires : tie.Need-renew-requires Inv-loop μ-loop Inv-loop2 μ-loop2 Inv-loop3 μ-loop3 Inv-loop5 μ-loop5 Inv-loop6 μ-loop6 Inv-loop4 μ-loop4
-renew-requires c κs =
-    let in-loop3 = c .before .before .before .before .before .before in
-    let past-loop2 = in-loop3 .before .before in
-    (omega (arith, opens past-loop2 .n-small, in-loop3 .loop3-test .taken), opens past-loop2 .ready _)
-
-add-b : tie.Need-add-b Inv-loop μ-loop Inv-loop2 μ-loop2 Inv-loop3 μ-loop3 Inv-loop5 μ-loop5 Inv-loop6 μ-loop6 Inv-loop4 μ-loop4
-add-b c =
-    let in-loop3 = c .before .before .before .before .before .before .before in
-    let past-loop2 = in-loop3 .before .before in
-    omega (arith, opens past-loop2 .n-small, in-loop3 .loop3-test .taken)
-
-loop3-less : tie.Need-loop3-less Inv-loop μ-loop Inv-loop2 μ-loop2 Inv-loop3 μ-loop3 Inv-loop5 μ-loop5 Inv-loop6 μ-loop6 Inv-loop4 μ-loop4
-loop3-less c =
-    let in-loop3 = c .before .before .before .before .before .before .before in
-    omega (arith, in-loop3 .loop3-test .taken)
-
-loop3-again : tie.Need-loop3-again Inv-loop μ-loop Inv-loop2 μ-loop2 Inv-loop3 μ-loop3 Inv-loop5 μ-loop5 Inv-loop6 μ-loop6 Inv-loop4 μ-loop4
-loop3-again c =
     let at-step-of = c .before .before .before .before .before in
-    let in-loop3 = at-step-of .before .before in
-    let at-loop3 = in-loop3 .before in
-    let past-loop2 = at-loop3 .before in
-    (omega (arith, in-loop3 .loop3-test .taken), lines-next (at-loop3 .loop3 .inv .1) (omega (arith, opens past-loop2 .n-small, in-loop3 .loop3-test .taken)) (at-step-of .step-of .ensures) (c .renew .ensures))
-
-highest-below-requires : tie.Need-highest-below-requires Inv-loop μ-loop Inv-loop2 μ-loop2 Inv-loop3 μ-loop3 Inv-loop5 μ-loop5 Inv-loop6 μ-loop6 Inv-loop4 μ-loop4
-highest-below-requires c κs =
-    let start = c .before .before .before .before .before .before .before in
-    valid-given _ (start .pre .0) .deliveries .few
-
-loop4-holds : tie.Need-loop4-holds Inv-loop μ-loop Inv-loop2 μ-loop2 Inv-loop3 μ-loop3 Inv-loop5 μ-loop5 Inv-loop6 μ-loop6 Inv-loop4 μ-loop4
-loop4-holds c =
-    let at-loop3 = c .before .before in
-    let past-loop2 = at-loop3 .before in
-    let at-loop2 = past-loop2 .before in
-    let start = at-loop2 .before .before .before .before in
-    (between-start _ _ _ _ _ _ _ (all-opened past-loop2) (start .pre .2) (c .highest-below .ensures), lines-all (at-loop3 .loop3 .inv .0) (c .before .loop3-test .left) (at-loop3 .loop3 .inv .1), at-loop2 .loop2 .inv .1 .long)
-
-fits : (c : tie.In-loop4 Inv-loop μ-loop Inv-loop2 μ-loop2 Inv-loop3 μ-loop3 Inv-loop5 μ-loop5 Inv-loop6 μ-loop6 Inv-loop4 μ-loop4) → let start = the-start c in let a = start .args in let l = c .before .loop4 in TurnFits (a .t1) (a .t2) (l .next .number) (l .states) (l .led) (l .direct) (l .moved)
-fits c =
-    let start = the-start c in
-    between-fits _ _ _ _ _ _ _ (start .pre .0) (c .loop4-test .taken) (c .before .loop4 .inv .0)
-
-few : (c : tie.In-loop4 Inv-loop μ-loop Inv-loop2 μ-loop2 Inv-loop3 μ-loop3 Inv-loop5 μ-loop5 Inv-loop6 μ-loop6 Inv-loop4 μ-loop4) → let start = the-start c in start .args .t1 .nsources ≤ 32
-few c =
-    let start = the-start c in
-    valid-given _ (start .pre .0) .sources .few
-
-mwhs : (c : tie.After-loop Inv-loop μ-loop Inv-loop2 μ-loop2 Inv-loop3 μ-loop3 Inv-loop5 μ-loop5 Inv-loop6 μ-loop6 Inv-loop4 μ-loop4) → let start = c .before .before in MwhsOf (start .args .t1) (c .before .loop .mwhs)
-mwhs c = hour-mwhs _ _ (mwhs-all _ _ _ _ (c .before .loop .inv .0) (c .loop-test .left) (c .before .loop .inv .1))
-
-starts : (c : tie.In-loop4 Inv-loop μ-loop Inv-loop2 μ-loop2 Inv-loop3 μ-loop3 Inv-loop5 μ-loop5 Inv-loop6 μ-loop6 Inv-loop4 μ-loop4) → let start = the-start c in AllReady (c .before .loop4 .states) (start .args .t1 .nsources)
-starts c = turn-start _ _ _ _ _ _ _ (fits c)
-
-lines : (c : tie.In-loop4 Inv-loop μ-loop Inv-loop2 μ-loop2 Inv-loop3 μ-loop3 Inv-loop5 μ-loop5 Inv-loop6 μ-loop6 Inv-loop4 μ-loop4) → let start = the-start c in let a = start .args in let l = c .before .loop4 in LinesFit (member (a .t2) (l .next .number)) (a .t1 .directs) (l .states) (a .t1 .nsources) (a .t1 .ndirects)
-lines c = turn-lines _ _ _ _ _ _ _ (fits c)
-
-lead-of-requires : tie.Need-lead-of-requires Inv-loop μ-loop Inv-loop2 μ-loop2 Inv-loop3 μ-loop3 Inv-loop5 μ-loop5 Inv-loop6 μ-loop6 Inv-loop4 μ-loop4
-lead-of-requires c κs =
-    let start = the-start (c .before) in
-    (valid-given _ (start .pre .0) .deliveries .few, fits (c .before) .members)
-
-lead-small : (c : tie.After-lead-of Inv-loop μ-loop Inv-loop2 μ-loop2 Inv-loop3 μ-loop3 Inv-loop5 μ-loop5 Inv-loop6 μ-loop6 Inv-loop4 μ-loop4) → c .lead-of .result < 32
-lead-small c =
-    let in-loop4 = c .before .before in
-    turn-within _ _ _ _ _ _ _ (fits in-loop4) _ (c .lead-of .ensures)
-
-loop5-holds : tie.Need-loop5-holds Inv-loop μ-loop Inv-loop2 μ-loop2 Inv-loop3 μ-loop3 Inv-loop5 μ-loop5 Inv-loop6 μ-loop6 Inv-loop4 μ-loop4
-loop5-holds c =
-    let in-loop4 = c .before .before in
-    let at-loop4 = in-loop4 .before in (
-      omega arith,
-      taken-none _ _ _ _,
-      turn-blank _ _ _ _ _ _ _ (fits in-loop4) _ (c .lead-of .ensures),
-      elsewhere-none _ _,
-      at-loop4 .loop4 .inv .1,
-      at-loop4 .loop4 .inv .2,
+    let at-open = at-step-of .before in
+    let in-loop = at-open .before .before in
+    let l = in-loop .before .loop .inv in
+    let small = a-small in-loop in (
+      omega (arith, in-loop .loop-test .taken),
+      opened-more _ _ _ _ small (l .1) (its-opened at-open),
+      lines-opened (l .2) small (l .1 .long) (at-step-of .step-of .ensures ∙ ap (λ (s : Running). stepOf (s .plant)) (sym (its-opened at-open))) (c .renew .ensures),
     )
 
-mul-line : tie.Need-mul-line Inv-loop μ-loop Inv-loop2 μ-loop2 Inv-loop3 μ-loop3 Inv-loop5 μ-loop5 Inv-loop6 μ-loop6 Inv-loop4 μ-loop4
+all-opened : (c : Opening) → c .before .loop .states ≡ map (λ s. opened (s .plant)) (the-start c .args .t1 .sources)
+all-opened c =
+    let l = c .before .loop .inv in
+    opened-all _ _ _ (the-start c .pre .0) (l .0) (c .loop-test .left) (l .1)
+
+-- Between turns.
+
+next-after-requires : tie.Need-next-after-requires Inv-loop μ-loop Inv-loop3 μ-loop3 Inv-loop4 μ-loop4 Inv-loop2 μ-loop2
+next-after-requires c κs = few-deliveries (the-start c)
+
+loop2-holds : tie.Need-loop2-holds Inv-loop μ-loop Inv-loop3 μ-loop3 Inv-loop4 μ-loop4 Inv-loop2 μ-loop2
+loop2-holds c =
+    let opening = c .before in
+    let l = opening .before .loop .inv in
+    (between-start _ _ (the-start opening .pre .0) (the-start opening .pre .1) _ _ _ _ (all-opened opening) (the-start opening .pre .3) (c .next-after .ensures), lines-all (l .0) (opening .loop-test .left) (l .2), l .1 .long)
+
+fits : (c : Turn) → let a = start-of c .args in let l = c .before .loop2 in TurnFits (a .t1) (a .t2) (l .next .key) (l .states) (l .led) (l .kept)
+fits c = between-fits _ _ _ _ _ _ (start-of c .pre .0) (c .loop2-test .taken) (c .before .loop2 .inv .0)
+
+starts : (c : Turn) → AllReady (c .before .loop2 .states) (start-of c .args .t1 .nsources)
+starts c = turn-start _ _ _ _ _ _ (fits c)
+
+fit-lines : (c : Turn) → let a = start-of c .args in let l = c .before .loop2 in LinesFit (member (a .t2) (l .next .key)) (a .t1 .directs) (l .states) (a .t1 .nsources) (a .t1 .ndirects)
+fit-lines c = turn-lines _ _ _ _ _ _ (fits c)
+
+lead-of-requires : tie.Need-lead-of-requires Inv-loop μ-loop Inv-loop3 μ-loop3 Inv-loop4 μ-loop4 Inv-loop2 μ-loop2
+lead-of-requires c κs =
+    let turn = c .before in
+    (few-deliveries (start-of turn), turn-members _ _ _ _ _ _ (fits turn))
+
+lead-small : (c : tie.After-lead-of Inv-loop μ-loop Inv-loop3 μ-loop3 Inv-loop4 μ-loop4 Inv-loop2 μ-loop2) → c .lead-of .result < 32
+lead-small c = turn-within _ _ _ _ _ _ (fits (c .before .before)) _ (c .lead-of .ensures)
+
+-- The D lines.
+
+loop3-holds : tie.Need-loop3-holds Inv-loop μ-loop Inv-loop3 μ-loop3 Inv-loop4 μ-loop4 Inv-loop2 μ-loop2
+loop3-holds c =
+    let turn = c .before .before in
+    let l = turn .before .loop2 .inv in
+    (omega arith, taken-none _ _ _ _, turn-blank _ _ _ _ _ _ (fits turn) _ (c .lead-of .ensures), l .1, l .2)
+
+mul-line : tie.Need-mul-line Inv-loop μ-loop Inv-loop3 μ-loop3 Inv-loop4 μ-loop4 Inv-loop2 μ-loop2
 mul-line c =
-    let in-loop4 = the-turn (c .before) in
-    omega (arith, lines in-loop4 .k-small)
+    let turn = the-turn (c .before) in
+    omega (arith, fit-lines turn .k-small)
 
-element-copy-out-line : tie.Need-element-copy-out-line Inv-loop μ-loop Inv-loop2 μ-loop2 Inv-loop3 μ-loop3 Inv-loop5 μ-loop5 Inv-loop6 μ-loop6 Inv-loop4 μ-loop4
+element-copy-out-line : tie.Need-element-copy-out-line Inv-loop μ-loop Inv-loop3 μ-loop3 Inv-loop4 μ-loop4 Inv-loop2 μ-loop2
 element-copy-out-line c =
-    let in-loop4 = the-turn (c .before) in
-    omega (arith, lines in-loop4 .k-small)
+    let turn = the-turn (c .before) in
+    omega (arith, fit-lines turn .k-small, c .loop3-test .taken)
 
-source-in : (c : tie.In-loop5 Inv-loop μ-loop Inv-loop2 μ-loop2 Inv-loop3 μ-loop3 Inv-loop5 μ-loop5 Inv-loop6 μ-loop6 Inv-loop4 μ-loop4) → let start = the-start (the-turn (c .before)) in lineAt (start .args .t1 .directs) (c .before .loop5 .q) .source < start .args .t1 .nsources
-source-in c =
-    let in-loop4 = the-turn (c .before) in
-    lines in-loop4 .source (c .before .loop5 .q) (c .loop5-test .taken)
+source-in : (c : tie.In-loop3 Inv-loop μ-loop Inv-loop3 μ-loop3 Inv-loop4 μ-loop4 Inv-loop2 μ-loop2) → let h = start-of (the-turn (c .before)) .args .t1 in lineAt (h .directs) (c .before .loop3 .q) .source < h .nsources
+source-in c = fit-lines (the-turn (c .before)) .source (c .before .loop3 .q) (c .loop3-test .taken)
 
-source-small : (c : tie.In-loop5 Inv-loop μ-loop Inv-loop2 μ-loop2 Inv-loop3 μ-loop3 Inv-loop5 μ-loop5 Inv-loop6 μ-loop6 Inv-loop4 μ-loop4) → let start = the-start (the-turn (c .before)) in lineAt (start .args .t1 .directs) (c .before .loop5 .q) .source < 32
-source-small c =
-    let in-loop4 = the-turn (c .before) in
-    omega (arith, source-in c, few in-loop4)
+source-small : (c : tie.In-loop3 Inv-loop μ-loop Inv-loop3 μ-loop3 Inv-loop4 μ-loop4 Inv-loop2 μ-loop2) → lineAt (start-of (the-turn (c .before)) .args .t1 .directs) (c .before .loop3 .q) .source < 32
+source-small c = omega (arith, source-in c, few-sources (start-of (the-turn (c .before))))
 
-delivery-small : (c : tie.In-loop5 Inv-loop μ-loop Inv-loop2 μ-loop2 Inv-loop3 μ-loop3 Inv-loop5 μ-loop5 Inv-loop6 μ-loop6 Inv-loop4 μ-loop4) → let start = the-start (the-turn (c .before)) in lineAt (start .args .t1 .directs) (c .before .loop5 .q) .delivery < 32
-delivery-small c =
-    let in-loop4 = the-turn (c .before) in
-    lines in-loop4 .delivery (c .before .loop5 .q) (c .loop5-test .taken)
+delivery-small : (c : tie.In-loop3 Inv-loop μ-loop Inv-loop3 μ-loop3 Inv-loop4 μ-loop4 Inv-loop2 μ-loop2) → lineAt (start-of (the-turn (c .before)) .args .t1 .directs) (c .before .loop3 .q) .delivery < 32
+delivery-small c = fit-lines (the-turn (c .before)) .delivery (c .before .loop3 .q) (c .loop3-test .taken)
 
-mul-its : tie.Need-mul-its Inv-loop μ-loop Inv-loop2 μ-loop2 Inv-loop3 μ-loop3 Inv-loop5 μ-loop5 Inv-loop6 μ-loop6 Inv-loop4 μ-loop4
+-- the states between D lines
+so-far : (c : Lines) → AllReady (c .loop3 .states) (start-of (the-turn c) .args .t1 .nsources)
+so-far c =
+    let turn = the-turn c in
+    taken-ready _ _ _ _ _ (fit-lines turn) _ _ _ (c .loop3 .inv .0) (c .loop3 .inv .1) (starts turn)
+
+mul-its : tie.Need-mul-its Inv-loop μ-loop Inv-loop3 μ-loop3 Inv-loop4 μ-loop4 Inv-loop2 μ-loop2
 mul-its c = omega (arith, delivery-small (c .before))
 
-same-number-requires : tie.Need-same-number-requires Inv-loop μ-loop Inv-loop2 μ-loop2 Inv-loop3 μ-loop3 Inv-loop5 μ-loop5 Inv-loop6 μ-loop6 Inv-loop4 μ-loop4
-same-number-requires c κs = search needs
-
-array-copy-out-its : tie.Need-array-copy-out-its Inv-loop μ-loop Inv-loop2 μ-loop2 Inv-loop3 μ-loop3 Inv-loop5 μ-loop5 Inv-loop6 μ-loop6 Inv-loop4 μ-loop4
+array-copy-out-its : tie.Need-array-copy-out-its Inv-loop μ-loop Inv-loop3 μ-loop3 Inv-loop4 μ-loop4 Inv-loop2 μ-loop2
 array-copy-out-its c = delivery-small (c .before)
 
-mul-s-3 : tie.Need-mul-s-3 Inv-loop μ-loop Inv-loop2 μ-loop2 Inv-loop3 μ-loop3 Inv-loop5 μ-loop5 Inv-loop6 μ-loop6 Inv-loop4 μ-loop4
-mul-s-3 c =
-    let in-loop5 = c .before .before .before .before in
-    omega (arith, source-small in-loop5)
+same-key-requires : tie.Need-same-key-requires Inv-loop μ-loop Inv-loop3 μ-loop3 Inv-loop4 μ-loop4 Inv-loop2 μ-loop2
+same-key-requires c κs = search needs
 
-array-copy-out-s-2 : tie.Need-array-copy-out-s-2 Inv-loop μ-loop Inv-loop2 μ-loop2 Inv-loop3 μ-loop3 Inv-loop5 μ-loop5 Inv-loop6 μ-loop6 Inv-loop4 μ-loop4
-array-copy-out-s-2 c =
-    let in-loop5 = c .before .before .before .before in
-    source-small in-loop5
+mul-s : tie.Need-mul-s Inv-loop μ-loop Inv-loop3 μ-loop3 Inv-loop4 μ-loop4 Inv-loop2 μ-loop2
+mul-s c =
+    let in-loop = c .before .before .before .before in
+    omega (arith, source-small in-loop)
 
-its-line : (c : tie.Then1 Inv-loop μ-loop Inv-loop2 μ-loop2 Inv-loop3 μ-loop3 Inv-loop5 μ-loop5 Inv-loop6 μ-loop6 Inv-loop4 μ-loop4) → let at-loop5 = c .before .before .before .before .before in let start = the-start (the-turn at-loop5) in let l = at-loop5 .loop5 in let line = lineAt (start .args .t1 .directs) (l .q) in LineFits (stateAt (l .states) (line .source)) line
+array-copy-out-s : tie.Need-array-copy-out-s Inv-loop μ-loop Inv-loop3 μ-loop3 Inv-loop4 μ-loop4 Inv-loop2 μ-loop2
+array-copy-out-s c =
+    let in-loop = c .before .before .before .before in
+    source-small in-loop
+
+-- a line of the group
+its-line : (c : tie.Then1 Inv-loop μ-loop Inv-loop3 μ-loop3 Inv-loop4 μ-loop4 Inv-loop2 μ-loop2) → let lines = c .before .before .before .before .before in let l = lines .loop3 in let line = lineAt (start-of (the-turn lines) .args .t1 .directs) (l .q) in LineFits (stateAt (l .states) (line .source)) line
 its-line c =
-    let in-loop5 = c .before .before .before .before in
-    let at-loop5 = in-loop5 .before in
-    let in-loop4 = the-turn at-loop5 in
-    line-fits _ _ _ _ _ (lines in-loop4) _ _ _ (in-loop5 .loop5-test .taken) (at-loop5 .loop5 .inv .1) (sym (c .before .same-number .ensures) ∙ c .if1 .taken)
+    let in-loop = c .before .before .before .before in
+    let lines = in-loop .before in
+    line-fits _ _ _ _ _ (fit-lines (the-turn lines)) _ _ _ (in-loop .loop3-test .taken) (lines .loop3 .inv .1) (sym (c .before .same-key .ensures) ∙ c .if1 .taken)
 
-allocate-requires : tie.Need-allocate-requires Inv-loop μ-loop Inv-loop2 μ-loop2 Inv-loop3 μ-loop3 Inv-loop5 μ-loop5 Inv-loop6 μ-loop6 Inv-loop4 μ-loop4
+its-took : (c : tie.After-allocate Inv-loop μ-loop Inv-loop3 μ-loop3 Inv-loop4 μ-loop4 Inv-loop2 μ-loop2) → let lines = c .before .before .before .before .before .before .before in let l = lines .loop3 in Took (stateAt (l .states) (lineAt (start-of (the-turn lines) .args .t1 .directs) (l .q) .source)) (c .allocate .result)
+its-took c = line-directs _ _ _ (its-line (c .before .before)) (c .allocate .ensures)
+
+its-ready : (c : tie.After-allocate Inv-loop μ-loop Inv-loop3 μ-loop3 Inv-loop4 μ-loop4 Inv-loop2 μ-loop2) → Ready (c .allocate .result)
+its-ready c =
+    let lines = c .before .before .before .before .before .before .before in
+    took-ready _ _ (so-far lines .ready _) (its-took c)
+
+allocate-requires : tie.Need-allocate-requires Inv-loop μ-loop Inv-loop3 μ-loop3 Inv-loop4 μ-loop4 Inv-loop2 μ-loop2
 allocate-requires c κs = let f = its-line (c .before) in ((f .sound, f .small), f .percent)
 
-its-took : (c : tie.After-allocate Inv-loop μ-loop Inv-loop2 μ-loop2 Inv-loop3 μ-loop3 Inv-loop5 μ-loop5 Inv-loop6 μ-loop6 Inv-loop4 μ-loop4) → let at-loop5 = c .before .before .before .before .before .before .before in let start = the-start (the-turn at-loop5) in let l = at-loop5 .loop5 in Took (stateAt (l .states) (lineAt (start .args .t1 .directs) (l .q) .source)) (c .allocate .result)
-its-took c =
-    let in-if1 = c .before .before in
-    line-directs _ _ _ (its-line in-if1) (c .allocate .ensures)
+sub-took : tie.Need-sub-took Inv-loop μ-loop Inv-loop3 μ-loop3 Inv-loop4 μ-loop4 Inv-loop2 μ-loop2
+sub-took c = its-took (c .before .before) .more
 
-its-ready : (c : tie.After-allocate Inv-loop μ-loop Inv-loop2 μ-loop2 Inv-loop3 μ-loop3 Inv-loop5 μ-loop5 Inv-loop6 μ-loop6 Inv-loop4 μ-loop4) → Ready (c .allocate .result)
-its-ready c =
-    let at-loop5 = c .before .before .before .before .before .before .before in
-    let in-loop4 = the-turn at-loop5 in
-    let l = at-loop5 .loop5 in took-ready _ _ (taken-ready _ _ _ _ _ (lines in-loop4) _ _ _ (l .inv .0) (l .inv .1) (starts in-loop4) .ready _) (its-took c)
-
-sub-took : tie.Need-sub-took Inv-loop μ-loop Inv-loop2 μ-loop2 Inv-loop3 μ-loop3 Inv-loop5 μ-loop5 Inv-loop6 μ-loop6 Inv-loop4 μ-loop4
-sub-took c =
-    let at-allocate = c .before .before in
-    its-took at-allocate .more
-
-cast-took : tie.Need-cast-took Inv-loop μ-loop Inv-loop2 μ-loop2 Inv-loop3 μ-loop3 Inv-loop5 μ-loop5 Inv-loop6 μ-loop6 Inv-loop4 μ-loop4
+cast-took : tie.Need-cast-took Inv-loop μ-loop Inv-loop3 μ-loop3 Inv-loop4 μ-loop4 Inv-loop2 μ-loop2
 cast-took c =
     let at-allocate = c .before .before in
-    let in-if1 = at-allocate .before .before in
-    omega (arith, line-took _ _ _ (its-line in-if1) (at-allocate .allocate .ensures) .1)
+    omega (arith, line-took _ _ _ (its-line (at-allocate .before .before)) (at-allocate .allocate .ensures) .1)
 
-add-took : tie.Need-add-took Inv-loop μ-loop Inv-loop2 μ-loop2 Inv-loop3 μ-loop3 Inv-loop5 μ-loop5 Inv-loop6 μ-loop6 Inv-loop4 μ-loop4
+add-took : tie.Need-add-took Inv-loop μ-loop Inv-loop3 μ-loop3 Inv-loop4 μ-loop4 Inv-loop2 μ-loop2
 add-took c =
     let at-allocate = c .before .before in
-    let in-if1 = at-allocate .before .before in
-    let at-loop5 = in-if1 .before .before .before .before .before in
-    let in-loop4 = the-turn at-loop5 in
-    omega (arith, line-took _ _ _ (its-line in-if1) (at-allocate .allocate .ensures) .1, taken-small _ _ _ _ _ (lines in-loop4) _ _ _ (at-loop5 .loop5 .inv .0) (at-loop5 .loop5 .inv .1))
+    let in-if = at-allocate .before .before in
+    let lines = in-if .before .before .before .before .before in
+    omega (arith, line-took _ _ _ (its-line in-if) (at-allocate .allocate .ensures) .1, taken-small _ _ _ _ _ (fit-lines (the-turn lines)) _ _ _ (lines .loop3 .inv .0) (lines .loop3 .inv .1))
 
-mul-add-direct : tie.Need-mul-add-direct Inv-loop μ-loop Inv-loop2 μ-loop2 Inv-loop3 μ-loop3 Inv-loop5 μ-loop5 Inv-loop6 μ-loop6 Inv-loop4 μ-loop4
-mul-add-direct c =
-    let at-lead-of = c .before .before .before .before .before .before .before .before .before .before .before in
-    omega (arith, lead-small at-lead-of)
+mul-keep : tie.Need-mul-keep Inv-loop μ-loop Inv-loop3 μ-loop3 Inv-loop4 μ-loop4 Inv-loop2 μ-loop2
+mul-keep c =
+    let in-loop = c .before .before .before .before .before .before .before .before .before in
+    omega (arith, lead-small (in-loop .before .before), source-small in-loop)
 
-add-add-direct : tie.Need-add-add-direct Inv-loop μ-loop Inv-loop2 μ-loop2 Inv-loop3 μ-loop3 Inv-loop5 μ-loop5 Inv-loop6 μ-loop6 Inv-loop4 μ-loop4
-add-add-direct c =
-    let in-loop5 = c .before .before .before .before .before .before .before .before .before in
-    let at-lead-of = in-loop5 .before .before in
-    omega (arith, lead-small at-lead-of, source-small in-loop5)
+add-keep : tie.Need-add-keep Inv-loop μ-loop Inv-loop3 μ-loop3 Inv-loop4 μ-loop4 Inv-loop2 μ-loop2
+add-keep c =
+    let in-loop = c .before .before .before .before .before .before .before .before .before in
+    omega (arith, lead-small (in-loop .before .before), source-small in-loop)
 
--- what the lines before took of a line's source
-so-far : (c : tie.In-loop5 Inv-loop μ-loop Inv-loop2 μ-loop2 Inv-loop3 μ-loop3 Inv-loop5 μ-loop5 Inv-loop6 μ-loop6 Inv-loop4 μ-loop4) → let at-loop4 = (the-turn (c .before)) .before in let start = at-loop4 .before .before .before .before .before .before .before .before .before in let a = start .args in let l = c .before .loop5 in let i = lineAt (a .t1 .directs) (l .q) .source in Took (stateAt (at-loop4 .loop4 .states) i) (stateAt (l .states) i)
-so-far c =
-    let in-loop4 = the-turn (c .before) in
-    let i = c .before .loop5 .inv in taken-took _ _ _ _ _ (lines in-loop4) _ _ _ (i .0) (i .1) _
-
-add-direct-requires : tie.Need-add-direct-requires Inv-loop μ-loop Inv-loop2 μ-loop2 Inv-loop3 μ-loop3 Inv-loop5 μ-loop5 Inv-loop6 μ-loop6 Inv-loop4 μ-loop4
-add-direct-requires c κs =
+keep-requires : tie.Need-keep-requires Inv-loop μ-loop Inv-loop3 μ-loop3 Inv-loop4 μ-loop4 Inv-loop2 μ-loop2
+keep-requires c κs =
     let at-allocate = c .before .before .before in
-    let in-loop5 = at-allocate .before .before .before .before .before .before in
-    let at-loop5 = in-loop5 .before in
-    let at-lead-of = at-loop5 .before in
-    let k = so-far in-loop5 in
-    direct-fits _ _ _ _ _ _ _ (at-loop5 .loop5 .inv .2) (source-in in-loop5) _ (its-took at-allocate) (omega (arith, lead-small at-lead-of, source-small in-loop5)) (its-ready at-allocate .small) (k .more) (k .charged)
+    let in-loop = at-allocate .before .before .before .before .before .before in
+    let lines = in-loop .before in
+    (omega (arith, lead-small (lines .before), source-small in-loop), ready-stands _ (so-far lines .ready _), ready-stands _ (its-ready at-allocate))
 
-mul-states-2 : tie.Need-mul-states-2 Inv-loop μ-loop Inv-loop2 μ-loop2 Inv-loop3 μ-loop3 Inv-loop5 μ-loop5 Inv-loop6 μ-loop6 Inv-loop4 μ-loop4
+mul-states-2 : tie.Need-mul-states-2 Inv-loop μ-loop Inv-loop3 μ-loop3 Inv-loop4 μ-loop4 Inv-loop2 μ-loop2
 mul-states-2 c =
-    let in-loop5 = c .before .before .before .before .before .before .before .before .before .before in
-    omega (arith, source-small in-loop5)
+    let in-loop = c .before .before .before .before .before .before .before .before .before .before in
+    omega (arith, source-small in-loop)
 
-array-set-from-states-2 : tie.Need-array-set-from-states-2 Inv-loop μ-loop Inv-loop2 μ-loop2 Inv-loop3 μ-loop3 Inv-loop5 μ-loop5 Inv-loop6 μ-loop6 Inv-loop4 μ-loop4
+array-set-from-states-2 : tie.Need-array-set-from-states-2 Inv-loop μ-loop Inv-loop3 μ-loop3 Inv-loop4 μ-loop4 Inv-loop2 μ-loop2
 array-set-from-states-2 c =
-    let in-loop5 = c .before .before .before .before .before .before .before .before .before .before in
-    source-small in-loop5
+    let in-loop = c .before .before .before .before .before .before .before .before .before .before in
+    source-small in-loop
 
-renew-requires-2 : tie.Need-renew-requires-2 Inv-loop μ-loop Inv-loop2 μ-loop2 Inv-loop3 μ-loop3 Inv-loop5 μ-loop5 Inv-loop6 μ-loop6 Inv-loop4 μ-loop4
+renew-requires-2 : tie.Need-renew-requires-2 Inv-loop μ-loop Inv-loop3 μ-loop3 Inv-loop4 μ-loop4 Inv-loop2 μ-loop2
 renew-requires-2 c κs =
     let at-allocate = c .before .before .before .before .before .before .before .before in
-    let in-loop5 = at-allocate .before .before .before .before .before .before in
-    (source-small in-loop5, its-ready at-allocate)
+    let in-loop = at-allocate .before .before .before .before .before .before in
+    (source-small in-loop, its-ready at-allocate)
 
-add-q : tie.Need-add-q Inv-loop μ-loop Inv-loop2 μ-loop2 Inv-loop3 μ-loop3 Inv-loop5 μ-loop5 Inv-loop6 μ-loop6 Inv-loop4 μ-loop4
+add-q : tie.Need-add-q Inv-loop μ-loop Inv-loop3 μ-loop3 Inv-loop4 μ-loop4 Inv-loop2 μ-loop2
 add-q c =
-    let in-loop5 = c .before .before .before .before in
-    let in-loop4 = the-turn (in-loop5 .before) in
-    omega (arith, lines in-loop4 .k-small, in-loop5 .loop5-test .taken)
+    let in-loop = c .before .before .before .before in
+    omega (arith, fit-lines (the-turn (in-loop .before)) .k-small, in-loop .loop3-test .taken)
 
-loop5-less : tie.Need-loop5-less Inv-loop μ-loop Inv-loop2 μ-loop2 Inv-loop3 μ-loop3 Inv-loop5 μ-loop5 Inv-loop6 μ-loop6 Inv-loop4 μ-loop4
-loop5-less c =
-    let in-loop5 = c .before .before .before .before in
-    omega (arith, in-loop5 .loop5-test .taken)
+loop3-less : tie.Need-loop3-less Inv-loop μ-loop Inv-loop3 μ-loop3 Inv-loop4 μ-loop4 Inv-loop2 μ-loop2
+loop3-less c =
+    let in-loop = c .before .before .before .before in
+    omega (arith, in-loop .loop3-test .taken)
 
-loop5-again : tie.Need-loop5-again Inv-loop μ-loop Inv-loop2 μ-loop2 Inv-loop3 μ-loop3 Inv-loop5 μ-loop5 Inv-loop6 μ-loop6 Inv-loop4 μ-loop4
-loop5-again c =
-    let in-loop5 = c .before .before .before .before in
-    let at-loop5 = in-loop5 .before in
-    let at-lead-of = at-loop5 .before in
-    let in-loop4 = at-lead-of .before .before in
-    let start = the-start in-loop4 in
-    let l = in-loop5 .loop5-test .taken in
-    let i = at-loop5 .loop5 .inv in
-    let s = source-in in-loop5 in
-    let b = source-small in-loop5 in
-    let n = few in-loop4 in
-    let z : lineAt (start .args .t1 .directs) (at-loop5 .loop5 .q) .source < length (at-loop5 .loop5 .states) = omega (arith, i .5, b) in
+loop3-again : tie.Need-loop3-again Inv-loop μ-loop Inv-loop3 μ-loop3 Inv-loop4 μ-loop4 Inv-loop2 μ-loop2
+loop3-again c =
+    let in-loop = c .before .before .before .before in
+    let lines = in-loop .before in
+    let turn = the-turn lines in
+    let l = in-loop .loop3-test .taken in
+    let i = lines .loop3 .inv in
+    let s = source-in in-loop in
+    let n = few-sources (start-of turn) in
+    let source = lineAt (start-of turn .args .t1 .directs) (lines .loop3 .q) .source in
+    let z : source < length (lines .loop3 .states) = omega (arith, i .4, source-small in-loop) in
     ⊎-elim
     (λ w.
-    let t = its-took (record { before = record { before = record { before = (c .before); if1 = w .0 }; s3 = w .1 }; allocate = w .2 }) in
-    let k = so-far in-loop5 in
-    let d = w .6 .ensures in (
+    let at-allocate : tie.After-allocate Inv-loop μ-loop Inv-loop3 μ-loop3 Inv-loop4 μ-loop4 Inv-loop2 μ-loop2 = record { before = record { before = record { before = c .before; if1 = w .0 }; s = w .1 }; allocate = w .2 } in (
       omega (arith, l),
-      rw (w .13, w .18) (taken-take _ _ _ _ _ (lines in-loop4) _ _ _ _ l (i .1) (sym (c .before .same-number .ensures) ∙ w .0 .taken) (w .2 .ensures)),
-      rw (w .12, w .13) (amounts-direct _ _ _ _ _ _ _ (i .2) s _ t _ (omega (arith, lead-small at-lead-of, b, i .3 .long, fits in-loop4 .reached .kept .direct-long)) z (k .more) (k .charged) d),
-      rw (w .12, d) (elsewhere-set _ _ _ _ _ b (i .3)),
-      rw (w .13, w .14, w .15, w .16, w .17) (lines-renewed (i .4) n s z (t .plant) (w .11 .ensures)),
-      rw (w .13) (length-set (at-loop5 .loop5 .states) (lineAt (start .args .t1 .directs) (at-loop5 .loop5 .q) .source) (w .2 .result) ∙ i .5),
+      rw (w .13, w .18) (taken-take _ _ _ _ _ (fit-lines turn) _ _ _ _ l (i .1) (sym (c .before .same-key .ensures) ∙ w .0 .taken) (w .2 .ensures)),
+      rw (w .12, w .13) (row-more _ _ _ _ _ _ _ _ _ _ (lead-small (lines .before)) s n z (ready-stands _ (so-far lines .ready source)) (ready-stands _ (its-ready at-allocate)) refl (w .6 .ensures) (i .2)),
+      rw (w .13, w .14, w .15, w .16, w .17) (lines-renewed (i .3) n s z (its-took at-allocate .plant) (w .11 .ensures)),
+      rw (w .13) (length-set (lines .loop3 .states) source (w .2 .result) ∙ i .4),
     ))
     (λ w. (
       omega (arith, l),
-      rw (w .2, w .7) (taken-skip _ _ _ _ _ _ _ (i .1) (sym (c .before .same-number .ensures) ∙ w .0 .left)),
+      rw (w .2, w .7) (taken-skip _ _ _ _ _ _ _ (i .1) (sym (c .before .same-key .ensures) ∙ w .0 .left)),
       rw (w .1, w .2) (i .2),
-      rw (w .1) (i .3),
-      rw (w .2, w .3, w .4, w .5, w .6) (i .4),
-      rw (w .2) (i .5),
+      rw (w .2, w .3, w .4, w .5, w .6) (i .3),
+      rw (w .2) (i .4),
     ))
     (c .if1 .came)
 
-total-of-requires : tie.Need-total-of-requires Inv-loop μ-loop Inv-loop2 μ-loop2 Inv-loop3 μ-loop3 Inv-loop5 μ-loop5 Inv-loop6 μ-loop6 Inv-loop4 μ-loop4
+took-all : (c : tie.After-loop3 Inv-loop μ-loop Inv-loop3 μ-loop3 Inv-loop4 μ-loop4 Inv-loop2 μ-loop2) → let lines = c .before in let turn = the-turn lines in let a = start-of turn .args in let l = turn .before .loop2 in LinesTaken (member (a .t2) (l .next .key)) (a .t1 .directs) (l .states) (a .t1 .nsources) (a .t1 .ndirects) (lines .loop3 .states) (lines .loop3 .took)
+took-all c = taken-all _ _ _ _ _ _ _ _ (c .before .loop3 .inv .0) (c .loop3-test .left) (c .before .loop3 .inv .1)
+
+directed-ready : (c : tie.After-loop3 Inv-loop μ-loop Inv-loop3 μ-loop3 Inv-loop4 μ-loop4 Inv-loop2 μ-loop2) → AllReady (c .before .loop3 .states) (start-of (the-turn (c .before)) .args .t1 .nsources)
+directed-ready c = turn-ready _ _ _ _ _ _ (fits (the-turn (c .before))) _ (took-all c .states)
+
+-- The remainder.
+
+total-of-requires : tie.Need-total-of-requires Inv-loop μ-loop Inv-loop3 μ-loop3 Inv-loop4 μ-loop4 Inv-loop2 μ-loop2
 total-of-requires c κs =
-    let in-loop4 = the-turn (c .before .before) in
-    let past-loop = in-loop4 .before .before .before .before .before .before .before .before in
-    mwhs-small _ _ (mwhs past-loop) (turn-deliveries _ _ _ _ _ _ _ (fits in-loop4))
+    let turn = the-turn (c .before) in
+    mwhs-small _ _ (start-of turn .pre .2) (turn-deliveries _ _ _ _ _ _ (fits turn))
 
-took-all : (c : tie.After-loop5 Inv-loop μ-loop Inv-loop2 μ-loop2 Inv-loop3 μ-loop3 Inv-loop5 μ-loop5 Inv-loop6 μ-loop6 Inv-loop4 μ-loop4) → let at-loop4 = (the-turn (c .before)) .before in let start = at-loop4 .before .before .before .before .before .before .before .before .before in let a = start .args in let l = at-loop4 .loop4 in LinesTaken (member (a .t2) (l .next .number)) (a .t1 .directs) (l .states) (a .t1 .nsources) (a .t1 .ndirects) (c .before .loop5 .states) (c .before .loop5 .took)
-took-all c = taken-all _ _ _ _ _ _ _ _ (c .before .loop5 .inv .0) (c .loop5-test .left) (c .before .loop5 .inv .1)
-
-ready : (c : tie.After-loop5 Inv-loop μ-loop Inv-loop2 μ-loop2 Inv-loop3 μ-loop3 Inv-loop5 μ-loop5 Inv-loop6 μ-loop6 Inv-loop4 μ-loop4) → let start = the-start (the-turn (c .before)) in AllReady (c .before .loop5 .states) (start .args .t1 .nsources)
-ready c =
-    let in-loop4 = the-turn (c .before) in
-    turn-ready _ _ _ _ _ _ _ (fits in-loop4) _ (took-all c .states)
-
-worked : (c : tie.After-total-of Inv-loop μ-loop Inv-loop2 μ-loop2 Inv-loop3 μ-loop3 Inv-loop5 μ-loop5 Inv-loop6 μ-loop6 Inv-loop4 μ-loop4) → let at-loop5 = the-lines c in let at-loop4 = (the-turn at-loop5) .before in let start = at-loop4 .before .before .before .before .before .before .before .before .before in let a = start .args in let l = at-loop4 .loop4 in Worked (a .t1) (a .t2) (l .next .number) (l .states) (at-loop5 .loop5 .states) (c .total-of .result) (at-loop5 .loop5 .took)
+worked : (c : Total) → let lines = the-lines c in let turn = the-turn lines in let a = start-of turn .args in let l = turn .before .loop2 in Worked (a .t1) (a .t2) (l .next .key) (l .states) (lines .loop3 .states) (c .total-of .result) (lines .loop3 .took)
 worked c =
-    let past-loop5 = c .before .before in
-    let at-loop4 = (the-turn (past-loop5 .before)) .before in
-    let past-loop = at-loop4 .before .before .before .before .before .before .before in
-    let start = past-loop .before .before in
-    let t = took-all past-loop5 in record {
-      lines = t .states;
-      mwh = total-scheduled _ _ (mwhs past-loop) (start .args .t2) (at-loop4 .loop4 .next .number) _ (c .total-of .ensures .0);
-      taken = t .sum;
-    }
+    let turn = the-turn (the-lines c) in
+    let start = start-of turn in
+    let t = took-all (c .before) in
+    record { lines = t .states; mwh = total-scheduled _ _ (start .pre .2) (start .args .t2) (turn .before .loop2 .next .key) _ (c .total-of .ensures .0); taken = t .sum }
 
-take-first-requires : tie.Need-take-first-requires Inv-loop μ-loop Inv-loop2 μ-loop2 Inv-loop3 μ-loop3 Inv-loop5 μ-loop5 Inv-loop6 μ-loop6 Inv-loop4 μ-loop4
+few-of : (c : First) → start-of (the-turn (the-lines (the-total c))) .args .t1 .nsources ≤ 32
+few-of c = few-sources (start-of (the-turn (the-lines (the-total c))))
+
+distance-requires : tie.Need-distance-requires Inv-loop μ-loop Inv-loop3 μ-loop3 Inv-loop4 μ-loop4 Inv-loop2 μ-loop2
+distance-requires c κs = search needs
+
+take-first-requires : tie.Need-take-first-requires Inv-loop μ-loop Inv-loop3 μ-loop3 Inv-loop4 μ-loop4 Inv-loop2 μ-loop2
 take-first-requires c κs =
-    let at-total-of = c .before .before .before .before .before .before .before in
-    let at-loop5 = the-lines at-total-of in
-    let in-loop4 = the-turn at-loop5 in
-    (first-sources (at-loop5 .loop5 .inv .4) (few in-loop4) (ltb (at-total-of .total-of .result) (at-loop5 .loop5 .took)), refl)
+    let total = c .before .before .before .before .before .before .before in
+    let lines = the-lines total in
+    (first-sources (lines .loop3 .inv .3) (few-sources (start-of (the-turn lines))) (ltb (total .total-of .result) (lines .loop3 .took)), refl)
 
-rest : (c : tie.Then2 Inv-loop μ-loop Inv-loop2 μ-loop2 Inv-loop3 μ-loop3 Inv-loop5 μ-loop5 Inv-loop6 μ-loop6 Inv-loop4 μ-loop4) → let at-total-of = the-total (c .before) in let at-loop5 = the-lines at-total-of in let at-loop4 = (the-turn at-loop5) .before in let start = at-loop4 .before .before .before .before .before .before .before .before .before in let a = start .args in Rest (at-loop4 .loop4 .next .number) (a .t1 .nsources) (at-total-of .total-of .result) (at-loop5 .loop5 .took) (at-loop5 .loop5 .states) (c .before .take-first .last .1 .1 .1 .1 .1 .1 .1 .1 .1 .0)
+-- what the first way moves is the remainder
+rest : (c : tie.Then2 Inv-loop μ-loop Inv-loop3 μ-loop3 Inv-loop4 μ-loop4 Inv-loop2 μ-loop2) → let total = the-total (c .before) in let lines = the-lines total in let turn = the-turn lines in Rest (turn .before .loop2 .next .key .number) (start-of turn .args .t1 .nsources) (total .total-of .result) (lines .loop3 .took) (lines .loop3 .states) (c .before .take-first .last .1 .1 .1 .1 .1 .1 .1 .1 .1 .0)
 rest c =
     let at-distance = c .before .before .before .before .before .before .before .before in
-    let past-loop5 = at-distance .before .before .before in
-    let at-loop5 = past-loop5 .before in
-    first-rest (at-loop5 .loop5 .inv .4) _ _ _ _ _ (ready past-loop5) (at-distance .distance .ensures) (rw (c .if2 .taken) at (c .before .take-first .ensures))
+    let past-lines = at-distance .before .before in
+    first-rest (past-lines .before .loop3 .inv .3) _ _ _ _ _ (directed-ready past-lines) (at-distance .distance .ensures) (rw (c .if2 .taken) at (c .before .take-first .ensures))
 
-loop6-holds : tie.Need-loop6-holds Inv-loop μ-loop Inv-loop2 μ-loop2 Inv-loop3 μ-loop3 Inv-loop5 μ-loop5 Inv-loop6 μ-loop6 Inv-loop4 μ-loop4
-loop6-holds c =
-    let at-loop5 = the-lines (the-total (c .before)) in
-    (omega arith, shifted-none _ _ _, retold-none _ _ _ _, at-loop5 .loop5 .inv .4, at-loop5 .loop5 .inv .5)
+loop4-holds : tie.Need-loop4-holds Inv-loop μ-loop Inv-loop3 μ-loop3 Inv-loop4 μ-loop4 Inv-loop2 μ-loop2
+loop4-holds c =
+    let i = the-lines (the-total (c .before)) .loop3 .inv in
+    (omega arith, shifted-none _ _ _, λ ss xs r. r, i .3, i .4)
 
-mul-m : tie.Need-mul-m Inv-loop μ-loop Inv-loop2 μ-loop2 Inv-loop3 μ-loop3 Inv-loop5 μ-loop5 Inv-loop6 μ-loop6 Inv-loop4 μ-loop4
-mul-m c =
-    let in-loop4 = the-turn (the-lines (the-total (c .before .before .before))) in
-    omega (arith, few in-loop4)
+i-small : (c : tie.In-loop4 Inv-loop μ-loop Inv-loop3 μ-loop3 Inv-loop4 μ-loop4 Inv-loop2 μ-loop2) → c .before .loop4 .i < 32
+i-small c = omega (arith, few-of (c .before .before .before), c .loop4-test .taken)
 
-array-read-m : tie.Need-array-read-m Inv-loop μ-loop Inv-loop2 μ-loop2 Inv-loop3 μ-loop3 Inv-loop5 μ-loop5 Inv-loop6 μ-loop6 Inv-loop4 μ-loop4
-array-read-m c =
-    let in-loop4 = the-turn (the-lines (the-total (c .before .before .before))) in
-    omega (arith, few in-loop4, c .loop6-test .taken)
+same-state : (c : tie.In-loop4 Inv-loop μ-loop Inv-loop3 μ-loop3 Inv-loop4 μ-loop4 Inv-loop2 μ-loop2) → let l = c .before .loop4 in stateAt (l .states) (l .i) ≡ stateAt (the-lines (the-total (c .before .before .before)) .loop3 .states) (l .i)
+same-state c = c .before .loop4 .inv .1 .beyond _ (omega arith)
 
-mul-t-2 : tie.Need-mul-t-2 Inv-loop μ-loop Inv-loop2 μ-loop2 Inv-loop3 μ-loop3 Inv-loop5 μ-loop5 Inv-loop6 μ-loop6 Inv-loop4 μ-loop4
-mul-t-2 c =
-    let in-loop4 = the-turn (the-lines (the-total (c .before .before .before .before))) in
-    omega (arith, few in-loop4, c .before .loop6-test .taken)
+mul-m : tie.Need-mul-m Inv-loop μ-loop Inv-loop3 μ-loop3 Inv-loop4 μ-loop4 Inv-loop2 μ-loop2
+mul-m c = omega (arith, i-small c)
 
-array-copy-out-t : tie.Need-array-copy-out-t Inv-loop μ-loop Inv-loop2 μ-loop2 Inv-loop3 μ-loop3 Inv-loop5 μ-loop5 Inv-loop6 μ-loop6 Inv-loop4 μ-loop4
-array-copy-out-t c =
-    let in-loop4 = the-turn (the-lines (the-total (c .before .before .before .before))) in
-    omega (arith, few in-loop4, c .before .loop6-test .taken)
+array-read-m : tie.Need-array-read-m Inv-loop μ-loop Inv-loop3 μ-loop3 Inv-loop4 μ-loop4 Inv-loop2 μ-loop2
+array-read-m c = i-small c
 
-same-state : (c : tie.In-loop6 Inv-loop μ-loop Inv-loop2 μ-loop2 Inv-loop3 μ-loop3 Inv-loop5 μ-loop5 Inv-loop6 μ-loop6 Inv-loop4 μ-loop4) → let at-loop5 = the-lines (the-total (c .before .before .before)) in let l = c .before .loop6 in stateAt (l .states) (l .i) ≡ stateAt (at-loop5 .loop5 .states) (l .i)
-same-state c = c .before .loop6 .inv .1 .beyond _ (omega arith)
+mul-t : tie.Need-mul-t Inv-loop μ-loop Inv-loop3 μ-loop3 Inv-loop4 μ-loop4 Inv-loop2 μ-loop2
+mul-t c = omega (arith, i-small (c .before))
 
-shift-one-requires : tie.Need-shift-one-requires Inv-loop μ-loop Inv-loop2 μ-loop2 Inv-loop3 μ-loop3 Inv-loop5 μ-loop5 Inv-loop6 μ-loop6 Inv-loop4 μ-loop4
-shift-one-requires c κs =
-    let in-loop6 = c .before .before in
-    let in-if2 = in-loop6 .before .before in
-    let past-loop5 = (the-total (in-if2 .before)) .before .before in
-    rw (same-state in-loop6) (ready past-loop5 .ready _, rest in-if2 .within _ (in-loop6 .loop6-test .taken))
+array-copy-out-t : tie.Need-array-copy-out-t Inv-loop μ-loop Inv-loop3 μ-loop3 Inv-loop4 μ-loop4 Inv-loop2 μ-loop2
+array-copy-out-t c = i-small (c .before)
 
-before-ready : (c : tie.After-shift-one Inv-loop μ-loop Inv-loop2 μ-loop2 Inv-loop3 μ-loop3 Inv-loop5 μ-loop5 Inv-loop6 μ-loop6 Inv-loop4 μ-loop4) → let at-loop6 = c .before .before .before .before in Ready (stateAt (at-loop6 .loop6 .states) (at-loop6 .loop6 .i))
-before-ready c =
-    let in-loop6 = c .before .before .before in
-    let past-loop5 = (the-total (in-loop6 .before .before .before)) .before .before in
-    rw (same-state in-loop6) (ready past-loop5 .ready _)
+before-ready : (c : tie.In-loop4 Inv-loop μ-loop Inv-loop3 μ-loop3 Inv-loop4 μ-loop4 Inv-loop2 μ-loop2) → Ready (stateAt (c .before .loop4 .states) (c .before .loop4 .i))
+before-ready c = rw (same-state c) (directed-ready (the-total (c .before .before .before) .before) .ready _)
 
-after-ready : (c : tie.After-shift-one Inv-loop μ-loop Inv-loop2 μ-loop2 Inv-loop3 μ-loop3 Inv-loop5 μ-loop5 Inv-loop6 μ-loop6 Inv-loop4 μ-loop4) → Ready (c .shift-one .result)
+after-ready : (c : tie.After-shift-one Inv-loop μ-loop Inv-loop3 μ-loop3 Inv-loop4 μ-loop4 Inv-loop2 μ-loop2) → Ready (c .shift-one .result)
 after-ready c =
-    let in-loop6 = c .before .before .before in
-    let in-if2 = in-loop6 .before .before in
-    rw (c .shift-one .ensures, same-state in-loop6) (rest in-if2 .ready _ (in-loop6 .loop6-test .taken))
+    let in-loop = c .before .before .before in
+    rw (c .shift-one .ensures, same-state in-loop) (rest (in-loop .before .before) .ready _ (in-loop .loop4-test .taken))
 
-i-small : (c : tie.In-loop6 Inv-loop μ-loop Inv-loop2 μ-loop2 Inv-loop3 μ-loop3 Inv-loop5 μ-loop5 Inv-loop6 μ-loop6 Inv-loop4 μ-loop4) → (c .before) .loop6 .i < 32
-i-small c =
-    let in-loop4 = the-turn (the-lines (the-total (c .before .before .before))) in
-    omega (arith, few in-loop4, c .loop6-test .taken)
+shift-one-requires : tie.Need-shift-one-requires Inv-loop μ-loop Inv-loop3 μ-loop3 Inv-loop4 μ-loop4 Inv-loop2 μ-loop2
+shift-one-requires c κs =
+    let in-loop = c .before .before in
+    let in-if2 = in-loop .before .before in
+    rw (same-state in-loop) (directed-ready (the-total (in-if2 .before) .before) .ready _, rest in-if2 .within _ (in-loop .loop4-test .taken))
 
-mul-set-moved : tie.Need-mul-set-moved Inv-loop μ-loop Inv-loop2 μ-loop2 Inv-loop3 μ-loop3 Inv-loop5 μ-loop5 Inv-loop6 μ-loop6 Inv-loop4 μ-loop4
-mul-set-moved c =
-    let at-lead-of = (the-lines (the-total (c .before .before .before .before .before .before .before))) .before in
-    omega (arith, lead-small at-lead-of)
+mul-keep-2 : tie.Need-mul-keep-2 Inv-loop μ-loop Inv-loop3 μ-loop3 Inv-loop4 μ-loop4 Inv-loop2 μ-loop2
+mul-keep-2 c =
+    let in-loop = c .before .before .before .before in
+    let lines = the-lines (the-total (in-loop .before .before .before)) in
+    omega (arith, lead-small (lines .before), i-small in-loop)
 
-add-set-moved : tie.Need-add-set-moved Inv-loop μ-loop Inv-loop2 μ-loop2 Inv-loop3 μ-loop3 Inv-loop5 μ-loop5 Inv-loop6 μ-loop6 Inv-loop4 μ-loop4
-add-set-moved c =
-    let in-loop6 = c .before .before .before .before in
-    let at-lead-of = (the-lines (the-total (in-loop6 .before .before .before))) .before in
-    omega (arith, lead-small at-lead-of, i-small in-loop6)
+add-keep-2 : tie.Need-add-keep-2 Inv-loop μ-loop Inv-loop3 μ-loop3 Inv-loop4 μ-loop4 Inv-loop2 μ-loop2
+add-keep-2 c =
+    let in-loop = c .before .before .before .before in
+    let lines = the-lines (the-total (in-loop .before .before .before)) in
+    omega (arith, lead-small (lines .before), i-small in-loop)
 
-set-moved-requires : tie.Need-set-moved-requires Inv-loop μ-loop Inv-loop2 μ-loop2 Inv-loop3 μ-loop3 Inv-loop5 μ-loop5 Inv-loop6 μ-loop6 Inv-loop4 μ-loop4
-set-moved-requires c κs =
-    let in-loop6 = c .before .before .before .before in
-    let at-lead-of = (the-lines (the-total (in-loop6 .before .before .before))) .before in
-    let r = before-ready (c .before) in let s = after-ready (c .before) in (omega (arith, lead-small at-lead-of, i-small in-loop6), ((r .small, level-small _ (r .sound) (r .small)), (s .small, level-small _ (s .sound) (s .small))))
+keep-requires-2 : tie.Need-keep-requires-2 Inv-loop μ-loop Inv-loop3 μ-loop3 Inv-loop4 μ-loop4 Inv-loop2 μ-loop2
+keep-requires-2 c κs =
+    let at-shift-one = c .before in
+    let in-loop = at-shift-one .before .before .before in
+    let lines = the-lines (the-total (in-loop .before .before .before)) in
+    (omega (arith, lead-small (lines .before), i-small in-loop), ready-stands _ (before-ready in-loop), ready-stands _ (after-ready at-shift-one))
 
-mul-states-3 : tie.Need-mul-states-3 Inv-loop μ-loop Inv-loop2 μ-loop2 Inv-loop3 μ-loop3 Inv-loop5 μ-loop5 Inv-loop6 μ-loop6 Inv-loop4 μ-loop4
-mul-states-3 c =
-    let in-loop6 = c .before .before .before .before .before in
-    omega (arith, i-small in-loop6)
+mul-states-3 : tie.Need-mul-states-3 Inv-loop μ-loop Inv-loop3 μ-loop3 Inv-loop4 μ-loop4 Inv-loop2 μ-loop2
+mul-states-3 c = omega (arith, i-small (c .before .before .before .before .before))
 
-array-set-from-states-3 : tie.Need-array-set-from-states-3 Inv-loop μ-loop Inv-loop2 μ-loop2 Inv-loop3 μ-loop3 Inv-loop5 μ-loop5 Inv-loop6 μ-loop6 Inv-loop4 μ-loop4
-array-set-from-states-3 c =
-    let in-loop6 = c .before .before .before .before .before in
-    i-small in-loop6
+array-set-from-states-3 : tie.Need-array-set-from-states-3 Inv-loop μ-loop Inv-loop3 μ-loop3 Inv-loop4 μ-loop4 Inv-loop2 μ-loop2
+array-set-from-states-3 c = i-small (c .before .before .before .before .before)
 
-renew-requires-3 : tie.Need-renew-requires-3 Inv-loop μ-loop Inv-loop2 μ-loop2 Inv-loop3 μ-loop3 Inv-loop5 μ-loop5 Inv-loop6 μ-loop6 Inv-loop4 μ-loop4
+renew-requires-3 : tie.Need-renew-requires-3 Inv-loop μ-loop Inv-loop3 μ-loop3 Inv-loop4 μ-loop4 Inv-loop2 μ-loop2
 renew-requires-3 c κs =
     let at-shift-one = c .before .before .before .before .before .before in
-    let in-loop6 = at-shift-one .before .before .before in
-    (i-small in-loop6, after-ready at-shift-one)
+    (i-small (at-shift-one .before .before .before), after-ready at-shift-one)
 
-add-i : tie.Need-add-i Inv-loop μ-loop Inv-loop2 μ-loop2 Inv-loop3 μ-loop3 Inv-loop5 μ-loop5 Inv-loop6 μ-loop6 Inv-loop4 μ-loop4
-add-i c =
-    let in-loop4 = the-turn (the-lines (the-total (c .before .before .before .before))) in
-    omega (arith, few in-loop4, c .before .loop6-test .taken)
+add-i : tie.Need-add-i Inv-loop μ-loop Inv-loop3 μ-loop3 Inv-loop4 μ-loop4 Inv-loop2 μ-loop2
+add-i c = omega (arith, i-small (c .before))
 
-loop6-less : tie.Need-loop6-less Inv-loop μ-loop Inv-loop2 μ-loop2 Inv-loop3 μ-loop3 Inv-loop5 μ-loop5 Inv-loop6 μ-loop6 Inv-loop4 μ-loop4
-loop6-less c = omega (arith, c .before .loop6-test .taken)
+loop4-less : tie.Need-loop4-less Inv-loop μ-loop Inv-loop3 μ-loop3 Inv-loop4 μ-loop4 Inv-loop2 μ-loop2
+loop4-less c = omega (arith, c .before .loop4-test .taken)
 
-loop6-again : tie.Need-loop6-again Inv-loop μ-loop Inv-loop2 μ-loop2 Inv-loop3 μ-loop3 Inv-loop5 μ-loop5 Inv-loop6 μ-loop6 Inv-loop4 μ-loop4
-loop6-again c =
-    let at-loop6 = c .before .before in
-    let at-take-first = at-loop6 .before .before in
-    let at-total-of = the-total at-take-first in
-    let at-loop5 = the-lines at-total-of in
-    let at-lead-of = at-loop5 .before in
-    let in-loop4 = at-lead-of .before .before in
-    let l = c .before .loop6-test .taken in
-    let i = at-loop6 .loop6 .inv in
-    let n = few in-loop4 in
-    let z : at-loop6 .loop6 .i < length (at-loop6 .loop6 .states) = omega (arith, i .4, i-small (c .before)) in
+loop4-again : tie.Need-loop4-again Inv-loop μ-loop Inv-loop3 μ-loop3 Inv-loop4 μ-loop4 Inv-loop2 μ-loop2
+loop4-again c =
+    let in-loop = c .before in
+    let at-loop = in-loop .before in
+    let first = at-loop .before .before in
+    let total = the-total first in
+    let lines = the-lines total in
+    let l = in-loop .loop4-test .taken in
+    let i = at-loop .loop4 .inv in
+    let n = few-of first in
+    let states = at-loop .loop4 .states in
+    let k = at-loop .loop4 .i in
+    let z : k < length states = omega (arith, i .4, i-small in-loop) in
     ⊎-elim
-    (λ w. (
+    (λ w.
+    let at-shift-one : tie.After-shift-one Inv-loop μ-loop Inv-loop3 μ-loop3 Inv-loop4 μ-loop4 Inv-loop2 μ-loop2 = record { before = record { before = record { before = in-loop; if3 = w .0 }; t = w .1 }; shift-one = w .2 } in (
       omega (arith, l),
-      rw (w .11) (shifted-more _ _ _ _ _ _ (i-small (c .before)) (at-loop5 .loop5 .inv .5) (i .1) (w .2 .ensures)),
-      rw (w .10, w .11) (retold-more _ _ _ _ _ _ _ _ (lead-small at-lead-of) l n z (fits in-loop4 .reached .kept .moved-long) _ _ (same-state (c .before)) (w .4 .ensures) (i .2)),
-      rw (w .11, w .12, w .13, w .14, w .15) (lines-renewed (i .3) n l z (shifted-plant (ltb (at-total-of .total-of .result) (at-loop5 .loop5 .took)) (stateAt (at-loop6 .loop6 .states) (at-loop6 .loop6 .i)) (w .2 .result) (at (at-take-first .take-first .last .1 .1 .1 .1 .1 .1 .1 .1 .1 .0) (at-loop6 .loop6 .i)) (w .2 .ensures)) (w .9 .ensures)),
-      rw (w .11) (length-set (at-loop6 .loop6 .states) (at-loop6 .loop6 .i) (w .2 .result) ∙ i .4),
+      rw (w .11) (shifted-more _ _ _ _ _ _ (i-small in-loop) (lines .loop3 .inv .4) (i .1) (w .2 .ensures)),
+      rw (w .10, w .11) (λ ss xs r. row-more _ _ _ _ _ _ _ _ _ _ (lead-small (lines .before)) l n z (ready-stands _ (before-ready in-loop)) (ready-stands _ (after-ready at-shift-one)) refl (w .4 .ensures) (i .2 ss xs r)),
+      rw (w .11, w .12, w .13, w .14, w .15) (lines-renewed (i .3) n l z (shifted-plant (ltb (total .total-of .result) (lines .loop3 .took)) (stateAt states k) (w .2 .result) (at (first .take-first .last .1 .1 .1 .1 .1 .1 .1 .1 .1 .0) k) (w .2 .ensures)) (w .9 .ensures)),
+      rw (w .11) (length-set states k (w .2 .result) ∙ i .4),
     ))
     (λ w. (
       omega (arith, l),
@@ -584,158 +507,109 @@ loop6-again c =
     ))
     (c .if3 .came)
 
-rested-first : (c : tie.After-loop6 Inv-loop μ-loop Inv-loop2 μ-loop2 Inv-loop3 μ-loop3 Inv-loop5 μ-loop5 Inv-loop6 μ-loop6 Inv-loop4 μ-loop4) → let at-total-of = the-total (c .before .before .before) in let at-loop5 = the-lines at-total-of in let at-lead-of = at-loop5 .before in let at-loop4 = at-lead-of .before .before .before in let start = at-loop4 .before .before .before .before .before .before .before .before .before in let a = start .args in let l = c .before .loop6 in Rested (a .t1) (a .t2) (at-loop4 .loop4 .next .number) (at-loop4 .loop4 .states) (at-loop5 .loop5 .states) (at-total-of .total-of .result) (at-loop5 .loop5 .took) (l .states) (at-loop4 .loop4 .step) (l .down) (l .room) (l .above) (l .head) (at-lead-of .lead-of .result) (at-loop5 .loop5 .direct) (at-loop4 .loop4 .moved) (l .moved)
+rested-first : (c : tie.After-loop4 Inv-loop μ-loop Inv-loop3 μ-loop3 Inv-loop4 μ-loop4 Inv-loop2 μ-loop2) → let total = the-total (c .before .before .before) in let lines = the-lines total in let turn = the-turn lines in let a = start-of turn .args in let t = turn .before .loop2 in let l = c .before .loop4 in
+    Rested (a .t1) (a .t2) (t .next .key) (t .states) (lines .loop3 .states) (total .total-of .result) (lines .loop3 .took) (l .states) (t .step) (l .down) (l .room) (l .above) (l .head) (lines .before .lead-of .result) (t .kept) (l .kept)
 rested-first c =
     let in-if2 = c .before .before in
-    let at-loop5 = the-lines (the-total (in-if2 .before)) in
-    let i = c .before .loop6 .inv in record {
-      left = rest in-if2 .moved _ (shifted-all _ _ _ _ _ _ (i .0) (c .loop6-test .left) (i .1));
-      amounts = i .2 .amounts _ _ (at-loop5 .loop5 .inv .2);
-      apart = i .2 .apart;
+    let lines = the-lines (the-total (in-if2 .before)) in
+    let i = c .before .loop4 .inv in
+    record {
+      left = rest in-if2 .moved _ (shifted-all _ _ _ _ _ _ (i .0) (c .loop4-test .left) (i .1));
+      row = i .2 _ _ (lines .loop3 .inv .2);
       lines = i .3;
       long = i .4;
     }
 
-settle-requires : tie.Need-settle-requires Inv-loop μ-loop Inv-loop2 μ-loop2 Inv-loop3 μ-loop3 Inv-loop5 μ-loop5 Inv-loop6 μ-loop6 Inv-loop4 μ-loop4
-settle-requires c κs =
-    let past-loop5 = (the-total (c .before)) .before .before in
-    ready past-loop5
+settle-requires : tie.Need-settle-requires Inv-loop μ-loop Inv-loop3 μ-loop3 Inv-loop4 μ-loop4 Inv-loop2 μ-loop2
+settle-requires c κs = directed-ready (the-total (c .before) .before)
 
-returns : tie.Need-returns Inv-loop μ-loop Inv-loop2 μ-loop2 Inv-loop3 μ-loop3 Inv-loop5 μ-loop5 Inv-loop6 μ-loop6 Inv-loop4 μ-loop4
+enum-told : tie.Need-enum-told Inv-loop μ-loop Inv-loop3 μ-loop3 Inv-loop4 μ-loop4 Inv-loop2 μ-loop2
+enum-told c = search needs
+
+enum-told-2 : tie.Need-enum-told-2 Inv-loop μ-loop Inv-loop3 μ-loop3 Inv-loop4 μ-loop4 Inv-loop2 μ-loop2
+enum-told-2 c = search needs
+
+returns : tie.Need-returns Inv-loop μ-loop Inv-loop3 μ-loop3 Inv-loop4 μ-loop4 Inv-loop2 μ-loop2
 returns c =
     let at-settle = c .before .before in
-    let at-total-of = the-total (at-settle .before .before) in
-    let in-loop4 = the-turn (the-lines at-total-of) in
-    let past-loop = in-loop4 .before .before .before .before .before .before .before .before in
+    let total = the-total (at-settle .before .before) in
     let v = c .enum-told2 .given in
-    (turn-refused _ _ _ _ _ _ _ (fits in-loop4) _ _ _ (worked at-total-of) _ (v .0 .0) _ _ _ (at-settle .settle .ensures) (v .1), mwhs past-loop)
+    turn-refused _ _ _ _ _ _ (fits (the-turn (the-lines total))) _ _ _ (worked total) _ (v .0 .0) _ _ (at-settle .settle .ensures) (v .1)
 
-left-slow : (c : tie.After-enum-told Inv-loop μ-loop Inv-loop2 μ-loop2 Inv-loop3 μ-loop3 Inv-loop5 μ-loop5 Inv-loop6 μ-loop6 Inv-loop4 μ-loop4) → let at-settle = c .before .before in let at-total-of = the-total (at-settle .before .before) in let at-loop5 = the-lines at-total-of in let at-loop4 = (the-turn at-loop5) .before in let start = at-loop4 .before .before .before .before .before .before .before .before .before in remainder (at-loop4 .loop4 .next .number) (start .args .t1 .nsources) (at-total-of .total-of .result) (at-loop5 .loop5 .took) (at-loop5 .loop5 .states) ≡ accepted (at-settle .settle .result .states)
-left-slow c =
-    let at-settle = c .before .before in
-    accepted-outcome _ _ _ (at-settle .settle .ensures) (c .enum-told .given .1)
+-- what the other ways leave
+left-by-ladder : (c : tie.After-enum-told Inv-loop μ-loop Inv-loop3 μ-loop3 Inv-loop4 μ-loop4 Inv-loop2 μ-loop2) → let at-settle = c .before .before in let total = the-total (at-settle .before .before) in let lines = the-lines total in let turn = the-turn lines in
+    remainder (turn .before .loop2 .next .key .number) (start-of turn .args .t1 .nsources) (total .total-of .result) (lines .loop3 .took) (lines .loop3 .states) ≡ accepted (at-settle .settle .result .states)
+left-by-ladder c = accepted-outcome _ _ _ (c .before .before .settle .ensures) (c .enum-told .given .1)
 
-ready-slow : (c : tie.After-enum-told Inv-loop μ-loop Inv-loop2 μ-loop2 Inv-loop3 μ-loop3 Inv-loop5 μ-loop5 Inv-loop6 μ-loop6 Inv-loop4 μ-loop4) → let at-settle = c .before .before in let start = the-start (the-turn (the-lines (the-total (at-settle .before .before)))) in AllReady (at-settle .settle .result .states) (start .args .t1 .nsources)
-ready-slow c =
-    let past-loop5 = (the-total (c .before .before .before .before)) .before .before in
-    remainder-ready _ _ _ _ _ _ (ready past-loop5) (left-slow c)
+ladder-ready : (c : tie.After-enum-told Inv-loop μ-loop Inv-loop3 μ-loop3 Inv-loop4 μ-loop4 Inv-loop2 μ-loop2) → let at-settle = c .before .before in AllReady (at-settle .settle .result .states) (start-of (the-turn (the-lines (the-total (at-settle .before .before)))) .args .t1 .nsources)
+ladder-ready c =
+    let past-lines = the-total (c .before .before .before .before) .before in
+    remainder-ready _ _ _ _ _ _ (directed-ready past-lines) (left-by-ladder c)
 
-set-all-requires : tie.Need-set-all-requires Inv-loop μ-loop Inv-loop2 μ-loop2 Inv-loop3 μ-loop3 Inv-loop5 μ-loop5 Inv-loop6 μ-loop6 Inv-loop4 μ-loop4
-set-all-requires c κs =
+keep-all-requires : tie.Need-keep-all-requires Inv-loop μ-loop Inv-loop3 μ-loop3 Inv-loop4 μ-loop4 Inv-loop2 μ-loop2
+keep-all-requires c κs =
     let at-enum-told = c .before .before in
-    let past-loop5 = (the-total (at-enum-told .before .before .before .before)) .before .before in
-    let at-lead-of = past-loop5 .before .before in
-    let in-loop4 = at-lead-of .before .before in
-    ((lead-small at-lead-of, ready past-loop5, ready-slow at-enum-told), fits in-loop4 .reached .kept .moved-long)
+    let past-lines = the-total (at-enum-told .before .before .before .before) .before in
+    (lead-small (past-lines .before .before), directed-ready past-lines, ladder-ready at-enum-told)
 
-line-up-requires : tie.Need-line-up-requires Inv-loop μ-loop Inv-loop2 μ-loop2 Inv-loop3 μ-loop3 Inv-loop5 μ-loop5 Inv-loop6 μ-loop6 Inv-loop4 μ-loop4
+line-up-requires : tie.Need-line-up-requires Inv-loop μ-loop Inv-loop3 μ-loop3 Inv-loop4 μ-loop4 Inv-loop2 μ-loop2
 line-up-requires c κs =
     let at-enum-told = c .before .before .before .before .before .before .before .before in
-    let at-loop5 = the-lines (the-total (at-enum-told .before .before .before .before)) in
-    let f = at-loop5 .loop5 .inv .4 in (ready-slow at-enum-told, (f .steps .long, f .lower .long-one, f .lower .long-cap, f .raise .long-one, f .raise .long-cap))
+    let f = the-lines (the-total (at-enum-told .before .before .before .before)) .loop3 .inv .3 in
+    (ladder-ready at-enum-told, (f .steps .long, f .lower .long-one, f .lower .long-cap, f .raise .long-one, f .raise .long-cap))
 
-rested-slow : (c : tie.After-line-up Inv-loop μ-loop Inv-loop2 μ-loop2 Inv-loop3 μ-loop3 Inv-loop5 μ-loop5 Inv-loop6 μ-loop6 Inv-loop4 μ-loop4) → let at-set-all = c .before .before .before .before .before .before in let at-settle = at-set-all .before .before .before .before .before in let at-total-of = the-total (at-settle .before .before) in let at-loop5 = the-lines at-total-of in let at-lead-of = at-loop5 .before in let at-loop4 = at-lead-of .before .before .before in let start = at-loop4 .before .before .before .before .before .before .before .before .before in let a = start .args in let r = c .line-up .last in Rested (a .t1) (a .t2) (at-loop4 .loop4 .next .number) (at-loop4 .loop4 .states) (at-loop5 .loop5 .states) (at-total-of .total-of .result) (at-loop5 .loop5 .took) (at-settle .settle .result .states) (r .1 .1 .0) (r .1 .1 .1 .0) (r .1 .1 .1 .1 .0) (r .1 .1 .1 .1 .1 .0) (r .1 .1 .1 .1 .1 .1 .0) (at-lead-of .lead-of .result) (at-loop5 .loop5 .direct) (at-loop4 .loop4 .moved) (at-set-all .set-all .last .0)
-rested-slow c =
-    let at-set-all = c .before .before .before .before .before .before in
-    let at-enum-told = at-set-all .before .before .before in
-    let at-loop5 = the-lines (the-total (at-enum-told .before .before .before .before)) in
-    let s = at-set-all .set-all .ensures in record {
-      left = left-slow at-enum-told;
-      amounts = s .amounts _ _ (at-loop5 .loop5 .inv .2);
-      apart = s .apart;
+rested-by-ladder : (c : tie.After-line-up Inv-loop μ-loop Inv-loop3 μ-loop3 Inv-loop4 μ-loop4 Inv-loop2 μ-loop2) → let at-keep-all = c .before .before .before .before .before .before in let at-settle = at-keep-all .before .before .before .before .before in let total = the-total (at-settle .before .before) in let lines = the-lines total in let turn = the-turn lines in let a = start-of turn .args in let t = turn .before .loop2 in let r = c .line-up .last in
+    Rested (a .t1) (a .t2) (t .next .key) (t .states) (lines .loop3 .states) (total .total-of .result) (lines .loop3 .took) (at-settle .settle .result .states) (r .1 .1 .0) (r .1 .1 .1 .0) (r .1 .1 .1 .1 .0) (r .1 .1 .1 .1 .1 .0) (r .1 .1 .1 .1 .1 .1 .0) (lines .before .lead-of .result) (t .kept) (at-keep-all .keep-all .last .0)
+rested-by-ladder c =
+    let at-keep-all = c .before .before .before .before .before .before in
+    let at-enum-told = at-keep-all .before .before .before in
+    let lines = the-lines (the-total (at-enum-told .before .before .before .before)) in
+    record {
+      left = left-by-ladder at-enum-told;
+      row = at-keep-all .keep-all .ensures _ _ (lines .loop3 .inv .2);
       lines = c .line-up .ensures;
-      long = remainder-long _ _ _ _ _ _ (left-slow at-enum-told) ∙ at-loop5 .loop5 .inv .5;
+      long = remainder-long _ _ _ _ _ _ (left-by-ladder at-enum-told) ∙ lines .loop3 .inv .4;
     }
 
-rested : (c : tie.Joined2 Inv-loop μ-loop Inv-loop2 μ-loop2 Inv-loop3 μ-loop3 Inv-loop5 μ-loop5 Inv-loop6 μ-loop6 Inv-loop4 μ-loop4) → let at-total-of = the-total (c .before) in let at-loop5 = the-lines at-total-of in let at-lead-of = at-loop5 .before in let at-loop4 = at-lead-of .before .before .before in let start = at-loop4 .before .before .before .before .before .before .before .before .before in let a = start .args in let l = c .if2 in Rested (a .t1) (a .t2) (at-loop4 .loop4 .next .number) (at-loop4 .loop4 .states) (at-loop5 .loop5 .states) (at-total-of .total-of .result) (at-loop5 .loop5 .took) (l .states) (l .step) (l .down) (l .room) (l .above) (l .head) (at-lead-of .lead-of .result) (at-loop5 .loop5 .direct) (at-loop4 .loop4 .moved) (l .moved)
+rested : (c : tie.Joined2 Inv-loop μ-loop Inv-loop3 μ-loop3 Inv-loop4 μ-loop4 Inv-loop2 μ-loop2) → let total = the-total (c .before) in let lines = the-lines total in let turn = the-turn lines in let a = start-of turn .args in let t = turn .before .loop2 in let l = c .if2 in
+    Rested (a .t1) (a .t2) (t .next .key) (t .states) (lines .loop3 .states) (total .total-of .result) (lines .loop3 .took) (l .states) (l .step) (l .down) (l .room) (l .above) (l .head) (lines .before .lead-of .result) (t .kept) (l .kept)
 rested c =
     ⊎-elim
-    (λ w. rw (w .3, w .4, w .5, w .6, w .7, w .8, w .9) (rested-first (record { before = record { before = record { before = (c .before); if2 = w .0 }; loop6 = w .1 }; loop6-test = w .2 })))
-    (λ w. rw (w .13, w .14, w .15, w .16, w .17, w .18, w .19) (rested-slow (record {
-      before = record { before = record { before = record { before = record { before = record { before = record { before = record { before = record { before = record { before = record { before = record { before = record { before = (c .before); if2 = w .0 }; settle = w .1 }; match = w .2 }; enum-told = w .3 }; after = w .4 }; set-all-arg = w .5 }; set-all = w .6 }; step2 = w .7 }; down5 = w .8 }; room5 = w .9 }; above5 = w .10 }; head5 = w .11 };
+    (λ w. rw (w .3, w .4, w .5, w .6, w .7, w .8, w .9) (rested-first (record { before = record { before = record { before = c .before; if2 = w .0 }; loop4 = w .1 }; loop4-test = w .2 })))
+    (λ w. rw (w .13, w .14, w .15, w .16, w .17, w .18, w .19) (rested-by-ladder (record {
+      before = record { before = record { before = record { before = record { before = record { before = record { before = record { before = record { before = record { before = record { before = record { before = record { before = c .before; if2 = w .0 }; settle = w .1 }; match = w .2 }; enum-told = w .3 }; after = w .4 }; keep-all-arg = w .5 }; keep-all = w .6 }; step2 = w .7 }; down5 = w .8 }; room5 = w .9 }; above5 = w .10 }; head5 = w .11 };
       line-up = w .12;
     })))
     (c .if2 .came)
 
-add-led : tie.Need-add-led Inv-loop μ-loop Inv-loop2 μ-loop2 Inv-loop3 μ-loop3 Inv-loop5 μ-loop5 Inv-loop6 μ-loop6 Inv-loop4 μ-loop4
-add-led c =
-    let at-total-of = the-total (c .before) in
-    omega (arith, at-total-of .total-of .ensures .1)
+-- The next turn.
 
-mul-led : tie.Need-mul-led Inv-loop μ-loop Inv-loop2 μ-loop2 Inv-loop3 μ-loop3 Inv-loop5 μ-loop5 Inv-loop6 μ-loop6 Inv-loop4 μ-loop4
-mul-led c =
-    let at-lead-of = (the-lines (the-total (c .before))) .before in
-    omega (arith, lead-small at-lead-of)
+add-led : tie.Need-add-led Inv-loop μ-loop Inv-loop3 μ-loop3 Inv-loop4 μ-loop4 Inv-loop2 μ-loop2
+add-led c = omega (arith, the-total (c .before) .total-of .ensures .1)
 
-element-write-led : tie.Need-element-write-led Inv-loop μ-loop Inv-loop2 μ-loop2 Inv-loop3 μ-loop3 Inv-loop5 μ-loop5 Inv-loop6 μ-loop6 Inv-loop4 μ-loop4
-element-write-led c =
-    let at-lead-of = (the-lines (the-total (c .before))) .before in
-    lead-small at-lead-of
+mul-led : tie.Need-mul-led Inv-loop μ-loop Inv-loop3 μ-loop3 Inv-loop4 μ-loop4 Inv-loop2 μ-loop2
+mul-led c = omega (arith, lead-small (the-lines (the-total (c .before)) .before))
 
-highest-below-requires-2 : tie.Need-highest-below-requires-2 Inv-loop μ-loop Inv-loop2 μ-loop2 Inv-loop3 μ-loop3 Inv-loop5 μ-loop5 Inv-loop6 μ-loop6 Inv-loop4 μ-loop4
-highest-below-requires-2 c κs =
-    let start = the-start (the-turn (the-lines (the-total (c .before)))) in
-    omega (arith, valid-given _ (start .pre .0) .deliveries .few)
+element-write-led : tie.Need-element-write-led Inv-loop μ-loop Inv-loop3 μ-loop3 Inv-loop4 μ-loop4 Inv-loop2 μ-loop2
+element-write-led c = lead-small (the-lines (the-total (c .before)) .before)
 
-loop4-less : tie.Need-loop4-less Inv-loop μ-loop Inv-loop2 μ-loop2 Inv-loop3 μ-loop3 Inv-loop5 μ-loop5 Inv-loop6 μ-loop6 Inv-loop4 μ-loop4
-loop4-less c =
-    let in-loop4 = the-turn (the-lines (the-total (c .before .before))) in
-    omega (arith, past-most _ _ _ _ (c .highest-below2 .ensures), past-there (in-loop4 .before .loop4 .next) (in-loop4 .loop4-test .taken))
+next-after-requires-2 : tie.Need-next-after-requires-2 Inv-loop μ-loop Inv-loop3 μ-loop3 Inv-loop4 μ-loop4 Inv-loop2 μ-loop2
+next-after-requires-2 c κs = few-deliveries (start-of (the-turn (the-lines (the-total (c .before)))))
 
-loop4-again : tie.Need-loop4-again Inv-loop μ-loop Inv-loop2 μ-loop2 Inv-loop3 μ-loop3 Inv-loop5 μ-loop5 Inv-loop6 μ-loop6 Inv-loop4 μ-loop4
-loop4-again c =
-    let at-total-of = the-total (c .before .before) in
-    let at-loop5 = the-lines at-total-of in
-    let at-lead-of = at-loop5 .before in
-    let in-loop4 = at-lead-of .before .before in
-    let r = rested (c .before) in (
-      between-next _ _ _ _ _ _ _ _
-          (turn-done _ _ _ _ _ _ _ (fits in-loop4) _ _ _ (worked at-total-of) _ (r .left) _ _ _ (at-lead-of .lead-of .ensures) (at-loop5 .loop5 .inv .3) (r .apart) (r .amounts))
-          (c .highest-below2 .ensures),
-      r .lines,
-      r .long,
-    )
+loop2-less : tie.Need-loop2-less Inv-loop μ-loop Inv-loop3 μ-loop3 Inv-loop4 μ-loop4 Inv-loop2 μ-loop2
+loop2-less c =
+    let turn = the-turn (the-lines (the-total (c .before .before))) in
+    omega (arith, past-most _ _ _ _ (c .next-after2 .ensures), past-there (turn .before .loop2 .next) (turn .loop2-test .taken))
 
-returns-2 : tie.Need-returns-2 Inv-loop μ-loop Inv-loop2 μ-loop2 Inv-loop3 μ-loop3 Inv-loop5 μ-loop5 Inv-loop6 μ-loop6 Inv-loop4 μ-loop4
-returns-2 c =
-    let past-loop = c .before .before .before .before .before .before .before .before in
-    (all-turned _ _ _ _ _ _ _ (c .loop4-test .left) (c .before .loop4 .inv .0), mwhs past-loop)
+loop2-again : tie.Need-loop2-again Inv-loop μ-loop Inv-loop3 μ-loop3 Inv-loop4 μ-loop4 Inv-loop2 μ-loop2
+loop2-again c =
+    let total = the-total (c .before .before) in
+    let lines = the-lines total in
+    let r = rested (c .before) in
+    (between-next _ _ _ _ _ _ _ _ (turn-done _ _ _ _ _ _ (fits (the-turn lines)) _ _ _ (worked total) _ (r .left) _ _ (lines .before .lead-of .ensures) (r .row)) (fits (the-turn lines) .rest) (c .next-after2 .ensures), r .lines, r .long)
 
-cast-mwhs : tie.Need-cast-mwhs Inv-loop μ-loop Inv-loop2 μ-loop2 Inv-loop3 μ-loop3 Inv-loop5 μ-loop5 Inv-loop6 μ-loop6 Inv-loop4 μ-loop4
-cast-mwhs c = search needs
-
-open-requires : tie.Need-open-requires Inv-loop μ-loop Inv-loop2 μ-loop2 Inv-loop3 μ-loop3 Inv-loop5 μ-loop5 Inv-loop6 μ-loop6 Inv-loop4 μ-loop4
-open-requires c κs = search needs
-
-mul-s : tie.Need-mul-s Inv-loop μ-loop Inv-loop2 μ-loop2 Inv-loop3 μ-loop3 Inv-loop5 μ-loop5 Inv-loop6 μ-loop6 Inv-loop4 μ-loop4
-mul-s c = search needs
-
-element-copy-out-s : tie.Need-element-copy-out-s Inv-loop μ-loop Inv-loop2 μ-loop2 Inv-loop3 μ-loop3 Inv-loop5 μ-loop5 Inv-loop6 μ-loop6 Inv-loop4 μ-loop4
-element-copy-out-s c = search needs
-
-open-requires-2 : tie.Need-open-requires-2 Inv-loop μ-loop Inv-loop2 μ-loop2 Inv-loop3 μ-loop3 Inv-loop5 μ-loop5 Inv-loop6 μ-loop6 Inv-loop4 μ-loop4
-open-requires-2 c κs = search needs
-
-mul-states : tie.Need-mul-states Inv-loop μ-loop Inv-loop2 μ-loop2 Inv-loop3 μ-loop3 Inv-loop5 μ-loop5 Inv-loop6 μ-loop6 Inv-loop4 μ-loop4
-mul-states c = search needs
-
-array-set-from-states : tie.Need-array-set-from-states Inv-loop μ-loop Inv-loop2 μ-loop2 Inv-loop3 μ-loop3 Inv-loop5 μ-loop5 Inv-loop6 μ-loop6 Inv-loop4 μ-loop4
-array-set-from-states c = search needs
-
-add-a : tie.Need-add-a Inv-loop μ-loop Inv-loop2 μ-loop2 Inv-loop3 μ-loop3 Inv-loop5 μ-loop5 Inv-loop6 μ-loop6 Inv-loop4 μ-loop4
-add-a c = search needs
-
-loop2-less : tie.Need-loop2-less Inv-loop μ-loop Inv-loop2 μ-loop2 Inv-loop3 μ-loop3 Inv-loop5 μ-loop5 Inv-loop6 μ-loop6 Inv-loop4 μ-loop4
-loop2-less c = search needs
-
-distance-requires : tie.Need-distance-requires Inv-loop μ-loop Inv-loop2 μ-loop2 Inv-loop3 μ-loop3 Inv-loop5 μ-loop5 Inv-loop6 μ-loop6 Inv-loop4 μ-loop4
-distance-requires c κs = search needs
-
-enum-told : tie.Need-enum-told Inv-loop μ-loop Inv-loop2 μ-loop2 Inv-loop3 μ-loop3 Inv-loop5 μ-loop5 Inv-loop6 μ-loop6 Inv-loop4 μ-loop4
-enum-told c = search needs
-
-enum-told-2 : tie.Need-enum-told-2 Inv-loop μ-loop Inv-loop2 μ-loop2 Inv-loop3 μ-loop3 Inv-loop5 μ-loop5 Inv-loop6 μ-loop6 Inv-loop4 μ-loop4
-enum-told-2 c = search needs
+returns-2 : tie.Need-returns-2 Inv-loop μ-loop Inv-loop3 μ-loop3 Inv-loop4 μ-loop4 Inv-loop2 μ-loop2
+returns-2 c = all-turned _ _ _ _ _ _ (c .loop2-test .left) (c .before .loop2 .inv .0)
 
 pub take-turns-spec : {M : Type 1} → statement M
 take-turns-spec =
@@ -743,97 +617,78 @@ take-turns-spec =
     (tie.spec
     Inv-loop
     μ-loop
-    Inv-loop2
-    μ-loop2
     Inv-loop3
     μ-loop3
-    Inv-loop5
-    μ-loop5
-    Inv-loop6
-    μ-loop6
     Inv-loop4
     μ-loop4
-    loop-holds
-    mul-t
-    element-copy-out-t
-    cast-mwhs
-    mul-mwhs
-    element-write-mwhs
-    add-j
-    loop-less
-    loop-again
+    Inv-loop2
+    μ-loop2
     open-requires
-    loop2-holds
-    mul-s
-    element-copy-out-s
+    loop-holds
+    mul-source
+    element-copy-out-source
     open-requires-2
     mul-states
     array-set-from-states
-    add-a
-    loop2-less
-    loop2-again
-    loop3-holds
-    mul-s-2
-    array-copy-out-s
     step-of-requires
     mul-step
     array-write-step
     renew-requires
-    add-b
-    loop3-less
-    loop3-again
-    highest-below-requires
-    loop4-holds
+    add-a
+    loop-less
+    loop-again
+    next-after-requires
+    loop2-holds
     lead-of-requires
-    loop5-holds
+    loop3-holds
     mul-line
     element-copy-out-line
     mul-its
     array-copy-out-its
-    same-number-requires
-    mul-s-3
-    array-copy-out-s-2
+    same-key-requires
+    mul-s
+    array-copy-out-s
     allocate-requires
     sub-took
     cast-took
     add-took
-    mul-add-direct
-    add-add-direct
-    add-direct-requires
+    mul-keep
+    add-keep
+    keep-requires
     mul-states-2
     array-set-from-states-2
     renew-requires-2
     add-q
-    loop5-less
-    loop5-again
+    loop3-less
+    loop3-again
     total-of-requires
     distance-requires
     take-first-requires
-    loop6-holds
+    loop4-holds
     mul-m
     array-read-m
-    mul-t-2
+    mul-t
     array-copy-out-t
     shift-one-requires
-    mul-set-moved
-    add-set-moved
-    set-moved-requires
+    mul-keep-2
+    add-keep-2
+    keep-requires-2
     mul-states-3
     array-set-from-states-3
     renew-requires-3
     add-i
-    loop6-less
-    loop6-again
+    loop4-less
+    loop4-again
     settle-requires
     enum-told
     enum-told-2
     returns
-    set-all-requires
+    keep-all-requires
     line-up-requires
     add-led
     mul-led
     element-write-led
-    highest-below-requires-2
-    loop4-less
-    loop4-again
+    next-after-requires-2
+    loop2-less
+    loop2-again
     returns-2)

@@ -12,10 +12,15 @@ to-emergency-requires : tie.Need-to-emergency-requires
 to-emergency-requires c κs = record { n-small = omega arith; ready = c .pre .0 .ready }
 
 last-step-requires : tie.Need-last-step-requires
-last-step-requires c κs = rw (c .to-emergency .ensures) (emergency-ready _ _ (c .before .pre .0), emergency-enough _ _ (c .before .pre .0) _ (c .before .pre .1))
+last-step-requires c κs =
+    let start = c .before in
+    rw (c .to-emergency .ensures) (emergency-ready _ _ (start .pre .0), emergency-enough _ _ (start .pre .0) _ (start .pre .1))
 
 returns : tie.Need-returns
-returns c = c .last-step .ensures ∙ ap (λ (ss : List Running). plain lastStep (c .before .before .args .n) ss (c .before .before .args .total)) (c .before .to-emergency .ensures)
+returns c =
+    let after-to-emergency = c .before in
+    let start = after-to-emergency .before in
+    c .last-step .ensures ∙ ap (λ (ss : List Running). plain lastStep (start .args .n) ss (start .args .total)) (after-to-emergency .to-emergency .ensures)
 
 pub below-emergency-spec : {M : Type 1} → statement M
 below-emergency-spec = tie.close (tie.spec to-emergency-requires last-step-requires returns)

@@ -18,52 +18,90 @@ abbrev μ-loop : tie.MeasureT-loop
 μ-loop n total after₀ rest₀ after rest = rest
 
 -- the source found is there
-there : (c : tie.After-dearest Inv-loop μ-loop) → c .dearest .result < c .before .before .before .args .n
-there c = chosen-there (c .before .before .loop .inv) _ (c .before .loop-test .taken) (c .dearest .ensures)
+there : (c : tie.After-dearest Inv-loop μ-loop) → let in-loop = c .before in let at-loop = in-loop .before in let start = at-loop .before in c .dearest .result < start .args .n
+there c =
+    let in-loop = c .before in
+    let at-loop = in-loop .before in
+    chosen-there (at-loop .loop .inv) _ (in-loop .loop-test .taken) (c .dearest .ensures)
 
-given : (c : tie.After-least Inv-loop μ-loop) → Given (c .before .before .before .before .before .loop .after) (c .before .before .before .before .before .loop .rest) (c .before .before .before .dearest .result) (c .least .result)
+given : (c : tie.After-least Inv-loop μ-loop) → let after-dearest = c .before .before .before in let in-loop = after-dearest .before in let at-loop = in-loop .before in Given (at-loop .loop .after) (at-loop .loop .rest) (after-dearest .dearest .result) (c .least .result)
 given c =
-    chosen-given (c .before .before .before .before .before .loop .inv) _ _ (c .before .before .before .before .loop-test .taken) (c .before .before .before .dearest .ensures)
-    (c .least .ensures ∙ ap (λ (x : ℕ). min x (c .before .before .before .before .before .loop .rest)) (c .before .unit-room .ensures .0))
+    let after-unit-room = c .before in
+    let after-dearest = after-unit-room .before .before in
+    let in-loop = after-dearest .before in
+    let at-loop = in-loop .before in
+    chosen-given (at-loop .loop .inv) _ _ (in-loop .loop-test .taken) (after-dearest .dearest .ensures)
+    (c .least .ensures ∙ ap (λ (x : ℕ). min x (at-loop .loop .rest)) (after-unit-room .unit-room .ensures .0))
 
 loop-holds : tie.Need-loop-holds Inv-loop μ-loop
 loop-holds c = stepping-start _ _ _ (search needs) (c .pre .0) (c .pre .1)
 
 dearest-requires : tie.Need-dearest-requires Inv-loop μ-loop
-dearest-requires c κs = record { n-small = c .before .before .pre .0 .n-small; ready = c .before .loop .inv .ready }
+dearest-requires c κs =
+    let at-loop = c .before in
+    let start = at-loop .before in
+    record { n-small = start .pre .0 .n-small; ready = at-loop .loop .inv .ready }
 
 mul-s : tie.Need-mul-s Inv-loop μ-loop
 mul-s c = search needs
 
 array-copy-out-s : tie.Need-array-copy-out-s Inv-loop μ-loop
-array-copy-out-s c = omega (arith, there c, c .before .before .before .pre .0 .n-small)
+array-copy-out-s c =
+    let in-loop = c .before in
+    let at-loop = in-loop .before in
+    let start = at-loop .before in
+    omega (arith, there c, start .pre .0 .n-small)
 
 unit-room-requires : tie.Need-unit-room-requires Inv-loop μ-loop
-unit-room-requires c κs = c .before .before .before .loop .inv .ready _
+unit-room-requires c κs =
+    let in-loop = c .before .before in
+    let at-loop = in-loop .before in
+    at-loop .loop .inv .ready _
 
 least-requires : tie.Need-least-requires Inv-loop μ-loop
 least-requires c κs = search needs
 
 shift-one-requires : tie.Need-shift-one-requires Inv-loop μ-loop
-shift-one-requires c κs = (c .before .before .before .before .before .loop .inv .ready _, omega (arith, given c .room, unit-room-most (stateAt (c .before .before .before .before .before .loop .after) (c .before .before .before .dearest .result)), room-open last (stateAt (c .before .before .before .before .before .loop .after) (c .before .before .before .dearest .result))))
+shift-one-requires c κs =
+    let after-dearest = c .before .before .before in
+    let in-loop = after-dearest .before in
+    let at-loop = in-loop .before in
+    (at-loop .loop .inv .ready _, omega (arith, given c .room, unit-room-most (stateAt (at-loop .loop .after) (after-dearest .dearest .result)), room-open last (stateAt (at-loop .loop .after) (after-dearest .dearest .result))))
 
 mul-after : tie.Need-mul-after Inv-loop μ-loop
 mul-after c = search needs
 
 array-set-from-after : tie.Need-array-set-from-after Inv-loop μ-loop
-array-set-from-after c = omega (arith, there (c .before .before .before .before), c .before .before .before .before .before .before .before .pre .0 .n-small)
+array-set-from-after c =
+    let after-dearest = c .before .before .before .before in
+    let in-loop = after-dearest .before in
+    let at-loop = in-loop .before in
+    let start = at-loop .before in
+    omega (arith, there after-dearest, start .pre .0 .n-small)
 
 sub-rest : tie.Need-sub-rest Inv-loop μ-loop
-sub-rest c = given (c .before) .within
+sub-rest c =
+    let after-least = c .before in
+    given after-least .within
 
 loop-less : tie.Need-loop-less Inv-loop μ-loop
-loop-less c = omega (arith, given (c .before) .some, given (c .before) .within)
+loop-less c =
+    let after-least = c .before in
+    omega (arith, given after-least .some, given after-least .within)
 
 loop-again : tie.Need-loop-again Inv-loop μ-loop
-loop-again c = rw (c .shift-one .ensures) (stepping-more (c .before .before .before .before .before .before .loop .inv) _ _ (c .before .before .before .before .before .before .before .pre .0 .n-small) (c .before .before .before .before .before .loop-test .taken) (c .before .before .before .before .dearest .ensures) (given (c .before)))
+loop-again c =
+    let after-least = c .before in
+    let after-dearest = after-least .before .before .before in
+    let in-loop = after-dearest .before in
+    let at-loop = in-loop .before in
+    let start = at-loop .before in
+    rw (c .shift-one .ensures) (stepping-more (at-loop .loop .inv) _ _ (start .pre .0 .n-small) (in-loop .loop-test .taken) (after-dearest .dearest .ensures) (given after-least))
 
 returns : tie.Need-returns Inv-loop μ-loop
-returns c = stepping-end (c .before .loop .inv) (c .loop-test .left)
+returns c =
+    let at-loop = c .before in
+    stepping-end (at-loop .loop .inv) (c .loop-test .left)
 
 pub last-step-spec : {M : Type 1} → statement M
 last-step-spec =

@@ -23,10 +23,18 @@ cast-result-2 : tie.Need-cast-result-2
 cast-result-2 c = search needs
 
 returns : tie.Need-returns
-returns c = room-down _ _ (c .before .before .before .before .args .s) _ (c .before .before .before .before .pre) (c .before .before .way .given .1) (c .room-of .ensures)
+returns c =
+    let after-way = c .before .before in
+    let at-match-keys1 = after-way .before in
+    let start = at-match-keys1 .before in
+    room-down _ _ (start .args .s) _ (start .pre) (after-way .way .given .1) (c .room-of .ensures)
 
 returns-2 : tie.Need-returns-2
-returns-2 c = room-up _ (c .before .before .before .args .s) _ (c .before .before .before .pre) (c .before .enum-told .given .1) (c .headroom-of .ensures)
+returns-2 c =
+    let after-enum-told = c .before in
+    let at-match-keys2 = after-enum-told .before in
+    let start = at-match-keys2 .before in
+    room-up _ (start .args .s) _ (start .pre) (after-enum-told .enum-told .given .1) (c .headroom-of .ensures)
 
 pub room-by-spec : {M : Type 1} → statement M
 room-by-spec =

@@ -25,10 +25,18 @@ array-copy-out-s : tie.Need-array-copy-out-s Inv-loop μ-loop
 array-copy-out-s c = search needs
 
 room-by-requires : tie.Need-room-by-requires Inv-loop μ-loop
-room-by-requires c κs = c .before .before .before .pre .ready _
+room-by-requires c κs =
+    let in-loop = c .before in
+    let at-loop = in-loop .before in
+    let start = at-loop .before in
+    start .pre .ready _
 
 add-sum : tie.Need-add-sum Inv-loop μ-loop
-add-sum c = omega (arith, c .room-by .ensures .1, c .before .before .before .loop .inv .1, c .before .before .before .before .pre .n-small)
+add-sum c =
+    let in-loop = c .before .before in
+    let at-loop = in-loop .before in
+    let start = at-loop .before in
+    omega (arith, c .room-by .ensures .1, at-loop .loop .inv .1, start .pre .n-small)
 
 add-i : tie.Need-add-i Inv-loop μ-loop
 add-i c = search needs
@@ -37,10 +45,15 @@ loop-less : tie.Need-loop-less Inv-loop μ-loop
 loop-less c = search needs
 
 loop-again : tie.Need-loop-again Inv-loop μ-loop
-loop-again c = (omega arith, omega (arith, c .room-by .ensures .1, c .before .before .before .loop .inv .1), sumTo-more _ _ _ _ (c .before .before .before .loop .inv .2) (c .room-by .ensures .0))
+loop-again c =
+    let in-loop = c .before .before in
+    let at-loop = in-loop .before in
+    (omega arith, omega (arith, c .room-by .ensures .1, at-loop .loop .inv .1), sumTo-more _ _ _ _ (at-loop .loop .inv .2) (c .room-by .ensures .0))
 
 returns : tie.Need-returns Inv-loop μ-loop
-returns c = sumTo-end _ _ _ _ (c .before .loop .inv .0) (c .loop-test .left) (c .before .loop .inv .2)
+returns c =
+    let at-loop = c .before in
+    sumTo-end _ _ _ _ (at-loop .loop .inv .0) (c .loop-test .left) (at-loop .loop .inv .2)
 
 pub rooms-spec : {M : Type 1} → statement M
 rooms-spec =

@@ -13,7 +13,10 @@ up-of-requires : tie.Need-up-of-requires
 up-of-requires c κs = search needs
 
 top-of-requires : tie.Need-top-of-requires
-top-of-requires c κs = (c .before .before .pre .1, rw (c .up-of .ensures) (way-within (c .before .before .args .way) (c .before .before .args .s) (c .before .room-by .result) (c .before .before .pre .1) (omega (arith, c .before .room-by .ensures .0))))
+top-of-requires c κs =
+    let after-room-by = c .before in
+    let start = after-room-by .before in
+    (start .pre .1, rw (c .up-of .ensures) (way-within (start .args .way) (start .args .s) (after-room-by .room-by .result) (start .pre .1) (omega (arith, after-room-by .room-by .ensures .0))))
 
 mul-one : tie.Need-mul-one
 mul-one c = search needs
@@ -28,7 +31,10 @@ element-write-cap : tie.Need-element-write-cap
 element-write-cap c = search needs
 
 returns : tie.Need-returns
-returns c = record { room = c .before .before .room-by .ensures .0; small = c .before .before .room-by .ensures .1; top = c .top-of .result; one-is = refl; cap-is = refl; lined = rw (c .before .up-of .ensures) at (c .top-of .ensures) }
+returns c =
+    let after-up-of = c .before in
+    let after-room-by = after-up-of .before in
+    record { room = after-room-by .room-by .ensures .0; small = after-room-by .room-by .ensures .1; top = c .top-of .result; one-is = refl; cap-is = refl; lined = rw (after-up-of .up-of .ensures) at (c .top-of .ensures) }
 
 pub set-line-spec : {M : Type 1} → statement M
 set-line-spec =

@@ -30,12 +30,19 @@ array-copy-out-s : tie.Need-array-copy-out-s Inv-loop μ-loop
 array-copy-out-s c = search needs
 
 room-by-requires : tie.Need-room-by-requires Inv-loop μ-loop
-room-by-requires c κs = rw (c .before .before .loop .inv .1 .beyond (c .before .before .loop .i) (omega arith)) (c .before .before .before .pre .ready _)
+room-by-requires c κs =
+    let in-loop = c .before in
+    let at-loop = in-loop .before in
+    let start = at-loop .before in
+    rw (at-loop .loop .inv .1 .beyond (at-loop .loop .i) (omega arith)) (start .pre .ready _)
 
 shift-one-requires : tie.Need-shift-one-requires Inv-loop μ-loop
 shift-one-requires c κs =
-    let a = c .before .before .before .loop in
-    let r : Ready (stateAt (a .after) (a .i)) = rw (a .inv .1 .beyond (a .i) (omega arith)) (c .before .before .before .before .pre .ready (a .i)) in
+    let in-loop = c .before .before in
+    let at-loop = in-loop .before in
+    let start = at-loop .before in
+    let a = at-loop .loop in
+    let r : Ready (stateAt (a .after) (a .i)) = rw (a .inv .1 .beyond (a .i) (omega arith)) (start .pre .ready (a .i)) in
     (r, way-within (Down Emergency) (stateAt (a .after) (a .i)) _ r (omega (arith, c .room-by .ensures .0)))
 
 mul-after : tie.Need-mul-after Inv-loop μ-loop
@@ -52,11 +59,16 @@ loop-less c = search needs
 
 loop-again : tie.Need-loop-again Inv-loop μ-loop
 loop-again c =
-    let m = c .before .before .before .before .loop .inv .1 in
-    (omega arith, shifted-more _ _ _ _ _ _ (omega arith) (search needs) m (c .shift-one .ensures ∙ ap (lowered _) (c .before .room-by .ensures .0 ∙ ap (room emergency) (m .beyond (c .before .before .before .before .loop .i) (omega arith)))))
+    let after-room-by = c .before in
+    let in-loop = after-room-by .before .before in
+    let at-loop = in-loop .before in
+    let m = at-loop .loop .inv .1 in
+    (omega arith, shifted-more _ _ _ _ _ _ (omega arith) (search needs) m (c .shift-one .ensures ∙ ap (lowered _) (after-room-by .room-by .ensures .0 ∙ ap (room emergency) (m .beyond (at-loop .loop .i) (omega arith)))))
 
 returns : tie.Need-returns Inv-loop μ-loop
-returns c = emergency-is _ _ (search needs) (shifted-all _ _ _ _ _ _ (c .before .loop .inv .0) (c .loop-test .left) (c .before .loop .inv .1))
+returns c =
+    let at-loop = c .before in
+    emergency-is _ _ (search needs) (shifted-all _ _ _ _ _ _ (at-loop .loop .inv .0) (c .loop-test .left) (at-loop .loop .inv .1))
 
 pub to-emergency-spec : {M : Type 1} → statement M
 to-emergency-spec =

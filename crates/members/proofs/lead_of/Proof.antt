@@ -11,10 +11,10 @@ use Rattle.members.proofs.lead_of.Statement.{statement}
 use Rattle.members.proofs.lead_of.Tie as tie
 
 abbrev Inv-loop : tie.InvT-loop
-Inv-loop n number numbers j₀ j = (j ≤ n) × ((k : ℕ) → k < j → member numbers number k ≡ false)
+Inv-loop n key keys j₀ j = (j ≤ n) × ((k : ℕ) → k < j → member keys key k ≡ false)
 
 abbrev μ-loop : tie.MeasureT-loop
-μ-loop n number numbers j₀ j = n - j
+μ-loop n key keys j₀ j = n - j
 
 loop-holds : tie.Need-loop-holds Inv-loop μ-loop
 loop-holds c = (omega arith, λ k l. absurd (omega arith))
@@ -25,11 +25,11 @@ mul-x c = omega arith
 array-copy-out-x : tie.Need-array-copy-out-x Inv-loop μ-loop
 array-copy-out-x c = omega arith
 
-same-number-requires : tie.Need-same-number-requires Inv-loop μ-loop
-same-number-requires c κs = search needs
+same-key-requires : tie.Need-same-key-requires Inv-loop μ-loop
+same-key-requires c κs = search needs
 
 returns : tie.Need-returns Inv-loop μ-loop
-returns c = let at-loop = c .before .before .before .before in record { within = omega arith; number = sym (c .before .same-number .ensures) ∙ c .if1 .taken; first = at-loop .loop .inv .1 }
+returns c = let at-loop = c .before .before .before .before in record { within = omega arith; key = sym (c .before .same-key .ensures) ∙ c .if1 .taken; first = at-loop .loop .inv .1 }
 
 add-j : tie.Need-add-j Inv-loop μ-loop
 add-j c = omega arith
@@ -43,13 +43,13 @@ loop-again c =
     let a = at-loop .before .args in
     let l = at-loop .loop in (
       omega arith,
-      λ k m. below-suc (λ k. member (a .t1) (a .number) k ≡ false) (l .j) (l .inv .1) (sym (c .before .same-number .ensures) ∙ c .if1 .left) k (omega arith),
+      λ k m. below-suc (λ k. member (a .t1) (a .key) k ≡ false) (l .j) (l .inv .1) (sym (c .before .same-key .ensures) ∙ c .if1 .left) k (omega arith),
     )
 
 returns-2 : tie.Need-returns-2 Inv-loop μ-loop
 returns-2 c =
     let a = c .before .before .args in
-    absurd (omega (arith, c .before .before .pre .1, lead-none (a .t1) (a .n) (a .number) (λ k l. c .before .loop .inv .1 k (omega arith))))
+    absurd (omega (arith, c .before .before .pre .1, lead-none (a .t1) (a .n) (a .key) (λ k l. c .before .loop .inv .1 k (omega arith))))
 
 pub lead-of-spec : {M : Type 1} → statement M
 lead-of-spec =
@@ -60,7 +60,7 @@ lead-of-spec =
     loop-holds
     mul-x
     array-copy-out-x
-    same-number-requires
+    same-key-requires
     returns
     add-j
     loop-less

@@ -1,13 +1,13 @@
 -- `members::share_row` meets its contract: the cells as far as the listed places reach have the shares of their sizes.
 use mathlib.Core.Path.{_≡_, ap, _∙_}
-use Prim.Native.Nat.{ℕ, _-_, _≤_, _<_}
+use Prim.Native.Nat.{ℕ, _-_, _*_, _≤_, _<_}
 use native.Mathlib.Omega.{arith}
 use borrow.Author.Needs.{needs}
 use lib.ListN.{getD}
 use mir.Syntax.{w64}
 use mir.Val.{toZ, ofZ}
 use Rattle.laws.specs.Parts.{upTo-most}
-use Rattle.members.specs.Live.{reached, Listed}
+use Rattle.members.specs.Live.{rowWidth, reached, Listed}
 use Rattle.members.specs.Rows.{RowFits, Row, row-none, row-next, row-all}
 use Rattle.rules.specs.Group.{Amount, upTo}
 use Rattle.members.proofs.share_row.Statement.{statement}
@@ -25,7 +25,7 @@ abbrev μ-loop : tie.MeasureT-loop
 -- the next listed place
 inside : (c : tie.In-loop Inv-loop μ-loop) →
     let a = c .before .before .args in
-    (getD (a .live .now) (c .before .loop .k) 0 < a .width) × (a .width ≤ 128) × (a .at ≤ 4096) × (c .before .loop .k < 128)
+    (getD (a .live .now) (c .before .loop .k) 0 < a .width) × (a .width ≤ rowWidth) × (a .at ≤ 32 * rowWidth) × (c .before .loop .k < rowWidth)
 inside c =
     let p = c .before .before .pre in
     (p .listed .place _ (c .loop-test .taken), p .fits .narrow, p .fits .low, omega (arith, p .fits .narrow, p .listed .few))

@@ -12,10 +12,16 @@ place-of-requires : tie.Need-place-of-requires
 place-of-requires c κs = search needs
 
 mul-result : tie.Need-mul-result
-mul-result c = omega (arith, c .before .number-of .ensures, number-most (c .before .before .args .r))
+mul-result c =
+    let after-number-of = c .before in
+    let start = after-number-of .before in
+    omega (arith, after-number-of .number-of .ensures, number-most (start .args .r))
 
 add-result : tie.Need-add-result
-add-result c = omega (arith, c .before .number-of .ensures, number-most (c .before .before .args .r))
+add-result c =
+    let after-number-of = c .before in
+    let start = after-number-of .before in
+    omega (arith, after-number-of .number-of .ensures, number-most (start .args .r))
 
 returns : tie.Need-returns
 returns c = search needs

@@ -52,7 +52,9 @@ loop-again c =
     (omega arith, best-more _ _ _ _ (at-loop .before .args .x) i _ _ _ (at-loop .loop .inv .1) (at-loop .before .pre .number i (omega arith)) (c .before .number-if .ensures) (c .better .ensures))
 
 returns : tie.Need-returns Inv-loop μ-loop
-returns c = best-end _ _ _ _ _ _ _ _ (c .before .loop .inv .0) (c .loop-test .left) (c .before .loop .inv .1)
+returns c =
+    let at-loop = c .before in
+    best-end _ _ _ _ _ _ _ _ (at-loop .loop .inv .0) (c .loop-test .left) (at-loop .loop .inv .1)
 
 pub best-match-spec : {M : Type 1} → statement M
 best-match-spec =

@@ -8,7 +8,9 @@ is-unplaced-requires : tie.Need-is-unplaced-requires
 is-unplaced-requires c κs = search needs
 
 returns : tie.Need-returns
-returns c = rw (sym (c .before .is-unplaced .ensures) ∙ c .if1 .taken)
+returns c =
+    let after-is-unplaced = c .before in
+    rw (sym (after-is-unplaced .is-unplaced .ensures) ∙ c .if1 .taken)
 
 is-unplaced-requires-2 : tie.Need-is-unplaced-requires-2
 is-unplaced-requires-2 c κs = search needs

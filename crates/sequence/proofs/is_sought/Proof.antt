@@ -16,10 +16,14 @@ enum-told : tie.Need-enum-told
 enum-told c = search needs
 
 returns : tie.Need-returns
-returns c = rw (c .before .before .x .given .1) (c .same-block .ensures)
+returns c =
+    let after-x = c .before .before in
+    rw (after-x .x .given .1) (c .same-block .ensures)
 
 returns-2 : tie.Need-returns-2
-returns-2 c = rw (c .before .x2 .given .1) (search needs)
+returns-2 c =
+    let after-x2 = c .before in
+    rw (after-x2 .x2 .given .1) (search needs)
 
 returns-3 : tie.Need-returns-3
 returns-3 c = search needs

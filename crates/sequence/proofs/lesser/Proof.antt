@@ -11,10 +11,16 @@ is-below-requires : tie.Need-is-below-requires
 is-below-requires c κs = search needs
 
 returns : tie.Need-returns
-returns c = let s = c .before .before .args in ap internal (omega (arith, ltb-true (s .x .0) (s .y .0) (sym (c .before .is-below .ensures) ∙ c .if1 .taken)))
+returns c =
+    let after-is-below = c .before in
+    let start = after-is-below .before in
+    let s = start .args in ap internal (omega (arith, ltb-true (s .x .0) (s .y .0) (sym (after-is-below .is-below .ensures) ∙ c .if1 .taken)))
 
 returns-2 : tie.Need-returns-2
-returns-2 c = let s = c .before .before .args in ap internal (omega (arith, ltb-false (s .x .0) (s .y .0) (sym (c .before .is-below .ensures) ∙ c .if1 .left)))
+returns-2 c =
+    let after-is-below = c .before in
+    let start = after-is-below .before in
+    let s = start .args in ap internal (omega (arith, ltb-false (s .x .0) (s .y .0) (sym (after-is-below .is-below .ensures) ∙ c .if1 .left)))
 
 pub lesser-spec : {M : Type 1} → statement M
 lesser-spec = tie.close (tie.spec is-below-requires returns returns-2)

@@ -6,7 +6,9 @@ use Rattle.sequence.proofs.match_under.Statement.{statement}
 use Rattle.sequence.proofs.match_under.Tie as tie
 
 returns : tie.Need-returns
-returns c = under-skipped (c .before .args .kind) (c .before .args .block) (c .if1 .taken)
+returns c =
+    let start = c .before in
+    under-skipped (start .args .kind) (start .args .block) (c .if1 .taken)
 
 sub-t9 : tie.Need-sub-t9
 sub-t9 c = search needs

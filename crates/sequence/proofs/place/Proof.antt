@@ -15,31 +15,46 @@ abbrev past-a : tie.Else1 → tie.Start
 past-a c = c .before .before .before .before .before
 
 no-a : (c : tie.Else1) → let s = past-a c .args in SameBlock (s .kinds .now) (s .blocks .now) (s .own) (s .n) (s .j) noNumber
-no-a c = no-match (sym (c .before .is-unplaced .ensures) ∙ not-false _ (c .if1 .left)) (c .before .before .best-match .ensures)
+no-a c =
+    let after-is-unplaced = c .before in
+    let after-best-match = after-is-unplaced .before in
+    no-match (sym (after-is-unplaced .is-unplaced .ensures) ∙ not-false _ (c .if1 .left)) (after-best-match .best-match .ensures)
 
 abbrev past-b : tie.Else2 → tie.Start
 past-b c = past-a (c .before .before .before)
 
 no-b : (c : tie.Else2) → let s = past-b c .args in NextBlock (s .kinds .now) (s .blocks .now) (s .own) (s .n) (s .j) noNumber
-no-b c = no-match (sym (c .before .is-unplaced2 .ensures) ∙ not-false _ (c .if2 .left)) (c .before .before .best-match2 .ensures)
+no-b c =
+    let after-is-unplaced2 = c .before in
+    let after-best-match2 = after-is-unplaced2 .before in
+    no-match (sym (after-is-unplaced2 .is-unplaced2 .ensures) ∙ not-false _ (c .if2 .left)) (after-best-match2 .best-match2 .ensures)
 
 abbrev past-c : tie.Else3 → tie.Start
 past-c c = past-b (c .before .before .before)
 
 no-c : (c : tie.Else3) → let s = past-c c .args in BlockUnder (s .kinds .now) (s .blocks .now) (s .own) (s .n) (s .j) noNumber
-no-c c = no-match (sym (c .before .is-unplaced3 .ensures) ∙ not-false _ (c .if3 .left)) (c .before .before .match-under .ensures)
+no-c c =
+    let after-is-unplaced3 = c .before in
+    let after-match-under = after-is-unplaced3 .before in
+    no-match (sym (after-is-unplaced3 .is-unplaced3 .ensures) ∙ not-false _ (c .if3 .left)) (after-match-under .match-under .ensures)
 
 abbrev past-d : tie.Else4 → tie.Start
 past-d c = past-c (c .before .before .before)
 
 no-d : (c : tie.Else4) → let s = past-d c .args in SameType (s .kinds .now) (s .blocks .now) (s .own) (s .n) (s .j) noNumber
-no-d c = no-match (sym (c .before .is-unplaced4 .ensures) ∙ not-false _ (c .if4 .left)) (c .before .before .best-match3 .ensures)
+no-d c =
+    let after-is-unplaced4 = c .before in
+    let after-best-match3 = after-is-unplaced4 .before in
+    no-match (sym (after-is-unplaced4 .is-unplaced4 .ensures) ∙ not-false _ (c .if4 .left)) (after-best-match3 .best-match3 .ensures)
 
 abbrev past-e : tie.Else5 → tie.Start
 past-e c = past-d (c .before .before .before)
 
 no-e : (c : tie.Else5) → let s = past-e c .args in Anything (s .kinds .now) (s .blocks .now) (s .own) (s .n) (s .j) noNumber
-no-e c = no-match (sym (c .before .is-unplaced5 .ensures) ∙ not-false _ (c .if5 .left)) (c .before .before .best-match4 .ensures)
+no-e c =
+    let after-is-unplaced5 = c .before in
+    let after-best-match4 = after-is-unplaced5 .before in
+    no-match (sym (after-is-unplaced5 .is-unplaced5 .ensures) ∙ not-false _ (c .if5 .left)) (after-best-match4 .best-match4 .ensures)
 
 mul-kind : tie.Need-mul-kind
 mul-kind c = search needs
@@ -60,7 +75,10 @@ is-unplaced-requires : tie.Need-is-unplaced-requires
 is-unplaced-requires c κs = search needs
 
 one-before-requires : tie.Need-one-before-requires
-one-before-requires c κs = match-steps (sym (c .before .is-unplaced .ensures) ∙ not-true _ (c .if1 .taken)) (c .before .before .best-match .ensures)
+one-before-requires c κs =
+    let after-is-unplaced = c .before in
+    let after-best-match = after-is-unplaced .before in
+    match-steps (sym (after-is-unplaced .is-unplaced .ensures) ∙ not-true _ (c .if1 .taken)) (after-best-match .best-match .ensures)
 
 returns : tie.Need-returns
 returns c =
@@ -79,7 +97,10 @@ is-unplaced-requires-2 : tie.Need-is-unplaced-requires-2
 is-unplaced-requires-2 c κs = search needs
 
 one-before-requires-2 : tie.Need-one-before-requires-2
-one-before-requires-2 c κs = match-steps (sym (c .before .is-unplaced2 .ensures) ∙ not-true _ (c .if2 .taken)) (c .before .before .best-match2 .ensures)
+one-before-requires-2 c κs =
+    let after-is-unplaced2 = c .before in
+    let after-best-match2 = after-is-unplaced2 .before in
+    match-steps (sym (after-is-unplaced2 .is-unplaced2 .ensures) ∙ not-true _ (c .if2 .taken)) (after-best-match2 .best-match2 .ensures)
 
 returns-2 : tie.Need-returns-2
 returns-2 c =
@@ -96,7 +117,10 @@ is-unplaced-requires-3 : tie.Need-is-unplaced-requires-3
 is-unplaced-requires-3 c κs = search needs
 
 one-after-requires : tie.Need-one-after-requires
-one-after-requires c κs = match-steps (sym (c .before .is-unplaced3 .ensures) ∙ not-true _ (c .if3 .taken)) (c .before .before .match-under .ensures)
+one-after-requires c κs =
+    let after-is-unplaced3 = c .before in
+    let after-match-under = after-is-unplaced3 .before in
+    match-steps (sym (after-is-unplaced3 .is-unplaced3 .ensures) ∙ not-true _ (c .if3 .taken)) (after-match-under .match-under .ensures)
 
 returns-3 : tie.Need-returns-3
 returns-3 c =
@@ -114,7 +138,10 @@ is-unplaced-requires-4 : tie.Need-is-unplaced-requires-4
 is-unplaced-requires-4 c κs = search needs
 
 one-before-requires-3 : tie.Need-one-before-requires-3
-one-before-requires-3 c κs = match-steps (sym (c .before .is-unplaced4 .ensures) ∙ not-true _ (c .if4 .taken)) (c .before .before .best-match3 .ensures)
+one-before-requires-3 c κs =
+    let after-is-unplaced4 = c .before in
+    let after-best-match3 = after-is-unplaced4 .before in
+    match-steps (sym (after-is-unplaced4 .is-unplaced4 .ensures) ∙ not-true _ (c .if4 .taken)) (after-best-match3 .best-match3 .ensures)
 
 returns-4 : tie.Need-returns-4
 returns-4 c =
@@ -133,7 +160,10 @@ is-unplaced-requires-5 : tie.Need-is-unplaced-requires-5
 is-unplaced-requires-5 c κs = search needs
 
 one-before-requires-4 : tie.Need-one-before-requires-4
-one-before-requires-4 c κs = match-steps (sym (c .before .is-unplaced5 .ensures) ∙ not-true _ (c .if5 .taken)) (c .before .before .best-match4 .ensures)
+one-before-requires-4 c κs =
+    let after-is-unplaced5 = c .before in
+    let after-best-match4 = after-is-unplaced5 .before in
+    match-steps (sym (after-is-unplaced5 .is-unplaced5 .ensures) ∙ not-true _ (c .if5 .taken)) (after-best-match4 .best-match4 .ensures)
 
 returns-5 : tie.Need-returns-5
 returns-5 c =

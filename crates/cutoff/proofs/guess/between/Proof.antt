@@ -33,13 +33,17 @@ div-less c = search needs
 -- src/guess.rt:35:14
 mul-less-2 : tie.Need-mul-less-2
 mul-less-2 c =
-    let f : c .before .before .before .before .args .part * 64 / c .before .before .before .before .args .whole ≤ 8388608 = omega (arith, div-le-self (c .before .before .before .before .args .part * 64) (c .before .before .before .before .args .whole), c .before .before .if2 .left) in
+    let else2 = c .before .before in
+    let start = else2 .before .before in
+    let f : start .args .part * 64 / start .args .whole ≤ 8388608 = omega (arith, div-le-self (start .args .part * 64) (start .args .whole), else2 .if2 .left) in
     omega (arith, mul-le-mul (c .if3 .left) f)
 
 -- src/guess.rt:35:14
 add-less : tie.Need-add-less
 add-less c =
-    let f : c .before .before .before .before .args .part * 64 / c .before .before .before .before .args .whole ≤ 8388608 = omega (arith, div-le-self (c .before .before .before .before .args .part * 64) (c .before .before .before .before .args .whole), c .before .before .if2 .left) in
+    let else2 = c .before .before in
+    let start = else2 .before .before in
+    let f : start .args .part * 64 / start .args .whole ≤ 8388608 = omega (arith, div-le-self (start .args .part * 64) (start .args .whole), else2 .if2 .left) in
     omega (arith, mul-le-mul (c .if3 .left) f)
 
 -- src/guess.rt:35:5

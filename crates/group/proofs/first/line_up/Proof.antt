@@ -22,7 +22,11 @@ array-copy-out-s : tie.Need-array-copy-out-s Inv-loop μ-loop
 array-copy-out-s c = search needs
 
 step-of-requires : tie.Need-step-of-requires Inv-loop μ-loop
-step-of-requires c κs = c .before .before .before .pre .0 .ready _ .small .plant
+step-of-requires c κs =
+    let in-loop = c .before in
+    let at-loop = in-loop .before in
+    let start = at-loop .before in
+    start .pre .0 .ready _ .small .plant
 
 mul-step : tie.Need-mul-step Inv-loop μ-loop
 mul-step c = search needs
@@ -31,7 +35,11 @@ element-write-step : tie.Need-element-write-step Inv-loop μ-loop
 element-write-step c = search needs
 
 renew-requires : tie.Need-renew-requires Inv-loop μ-loop
-renew-requires c κs = let r = c .before .before .before .before .before .before .before .before .pre .0 in (omega (arith, r .n-small, c .before .before .before .before .before .before .loop-test .taken), r .ready _)
+renew-requires c κs =
+    let in-loop = c .before .before .before .before .before .before in
+    let at-loop = in-loop .before in
+    let start = at-loop .before in
+    let r = start .pre .0 in (omega (arith, r .n-small, in-loop .loop-test .taken), r .ready _)
 
 add-i : tie.Need-add-i Inv-loop μ-loop
 add-i c = search needs
@@ -40,10 +48,17 @@ loop-less : tie.Need-loop-less Inv-loop μ-loop
 loop-less c = search needs
 
 loop-again : tie.Need-loop-again Inv-loop μ-loop
-loop-again c = (omega (arith, c .before .before .before .before .before .before .before .loop-test .taken), lines-next (c .before .before .before .before .before .before .before .before .loop .inv .1) (omega (arith, c .before .before .before .before .before .before .before .before .before .pre .0 .n-small, c .before .before .before .before .before .before .before .loop-test .taken)) (c .before .before .before .before .before .step-of .ensures) (c .renew .ensures))
+loop-again c =
+    let after-step-of = c .before .before .before .before .before in
+    let in-loop = after-step-of .before .before in
+    let at-loop = in-loop .before in
+    let start = at-loop .before in
+    (omega (arith, in-loop .loop-test .taken), lines-next (at-loop .loop .inv .1) (omega (arith, start .pre .0 .n-small, in-loop .loop-test .taken)) (after-step-of .step-of .ensures) (c .renew .ensures))
 
 returns : tie.Need-returns Inv-loop μ-loop
-returns c = lines-all (c .before .loop .inv .0) (c .loop-test .left) (c .before .loop .inv .1)
+returns c =
+    let at-loop = c .before in
+    lines-all (at-loop .loop .inv .0) (c .loop-test .left) (at-loop .loop .inv .1)
 
 pub line-up-spec : {M : Type 1} → statement M
 line-up-spec =

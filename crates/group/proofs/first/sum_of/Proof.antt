@@ -25,7 +25,11 @@ element-copy-out-sum : tie.Need-element-copy-out-sum Inv-loop μ-loop
 element-copy-out-sum c = search needs
 
 add-sum : tie.Need-add-sum Inv-loop μ-loop
-add-sum c = omega (arith, c .before .before .before .pre .each (c .before .before .loop .i) (c .before .loop-test .taken), c .before .before .loop .inv .1, c .before .before .before .pre .n-small)
+add-sum c =
+    let in-loop = c .before in
+    let at-loop = in-loop .before in
+    let start = at-loop .before in
+    omega (arith, start .pre .each (at-loop .loop .i) (in-loop .loop-test .taken), at-loop .loop .inv .1, start .pre .n-small)
 
 add-i : tie.Need-add-i Inv-loop μ-loop
 add-i c = search needs
@@ -34,14 +38,19 @@ loop-less : tie.Need-loop-less Inv-loop μ-loop
 loop-less c = search needs
 
 loop-again : tie.Need-loop-again Inv-loop μ-loop
-loop-again c = (
-  omega arith,
-  omega (arith, c .before .before .before .pre .each (c .before .before .loop .i) (c .before .loop-test .taken), c .before .before .loop .inv .1),
-  sumTo-more _ _ _ _ (c .before .before .loop .inv .2) refl,
-)
+loop-again c =
+    let in-loop = c .before in
+    let at-loop = in-loop .before in
+    let start = at-loop .before in (
+      omega arith,
+      omega (arith, start .pre .each (at-loop .loop .i) (in-loop .loop-test .taken), at-loop .loop .inv .1),
+      sumTo-more _ _ _ _ (at-loop .loop .inv .2) refl,
+    )
 
 returns : tie.Need-returns Inv-loop μ-loop
-returns c = sumTo-end _ _ _ _ (c .before .loop .inv .0) (c .loop-test .left) (c .before .loop .inv .2)
+returns c =
+    let at-loop = c .before in
+    sumTo-end _ _ _ _ (at-loop .loop .inv .0) (c .loop-test .left) (at-loop .loop .inv .2)
 
 pub sum-of-spec : {M : Type 1} → statement M
 sum-of-spec =

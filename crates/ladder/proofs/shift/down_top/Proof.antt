@@ -51,13 +51,20 @@ mul-unload-top : tie.Need-mul-unload-top
 mul-unload-top c = search needs
 
 unload-top-requires-2 : tie.Need-unload-top-requires-2
-unload-top-requires-2 c κs = (purchase-numbers (c .before .before .before .args .s) 0 (c .before .before .before .pre .0) _ _ (c .before .p2 .given .1), (omega arith, omega (arith, c .before .before .before .pre .0 .small .v)))
+unload-top-requires-2 c κs =
+    let after-p2 = c .before in
+    let at-match-keys2 = after-p2 .before in
+    let start = at-match-keys2 .before in
+    (purchase-numbers (start .args .s) 0 (start .pre .0) _ _ (after-p2 .p2 .given .1), (omega arith, omega (arith, start .pre .0 .small .v)))
 
 enum-told : tie.Need-enum-told
 enum-told c = search needs
 
 unload-top-requires-3 : tie.Need-unload-top-requires-3
-unload-top-requires-3 c κs = (no-numbers, (omega arith, omega (arith, c .before .before .pre .0 .small .v)))
+unload-top-requires-3 c κs =
+    let at-match-keys3 = c .before in
+    let start = at-match-keys3 .before in
+    (no-numbers, (omega arith, omega (arith, start .pre .0 .small .v)))
 
 returns : tie.Need-returns
 returns c =
@@ -67,10 +74,14 @@ returns c =
     (unit-lined false (at-p .p .given .0 .0) _ (rw (at-r .before .before .b .ensures, at-r .before .c .ensures, at-r .r .ensures) at (c .unload-top .ensures)))
 
 returns-2 : tie.Need-returns-2
-returns-2 c = rw (c .before .before .p2 .given .1) (purchase-lined false (c .before .before .p2 .given .0 .0) (c .before .before .p2 .given .0 .1 .0) _ _ (c .unload-top2 .ensures))
+returns-2 c =
+    let after-p2 = c .before .before in
+    rw (after-p2 .p2 .given .1) (purchase-lined false (after-p2 .p2 .given .0 .0) (after-p2 .p2 .given .0 .1 .0) _ _ (c .unload-top2 .ensures))
 
 returns-3 : tie.Need-returns-3
-returns-3 c = rw (c .before .enum-told .given .1) (fixed-lined false (c .before .enum-told .given .0 .0) _ _ (c .unload-top3 .ensures))
+returns-3 c =
+    let after-enum-told = c .before in
+    rw (after-enum-told .enum-told .given .1) (fixed-lined false (after-enum-told .enum-told .given .0 .0) _ _ (c .unload-top3 .ensures))
 
 pub down-top-spec : {M : Type 1} → statement M
 down-top-spec =

@@ -15,16 +15,24 @@ cast-x : tie.Need-cast-x
 cast-x c = omega (arith, small (c .args .up) (c .args .s) (c .args .k) (c .pre .0) (c .pre .1))
 
 raised-requires : tie.Need-raised-requires
-raised-requires c κs = omega (arith, (rw (c .if1 .taken) at (c .before .pre .1)) .0)
+raised-requires c κs =
+    let start = c .before in
+    omega (arith, (rw (c .if1 .taken) at (start .pre .1)) .0)
 
 returns : tie.Need-returns
-returns c = rw (c .before .if1 .taken) (c .raised .ensures)
+returns c =
+    let then1 = c .before in
+    rw (then1 .if1 .taken) (c .raised .ensures)
 
 lowered-requires : tie.Need-lowered-requires
-lowered-requires c κs = rw (c .if1 .left) at (c .before .pre .1)
+lowered-requires c κs =
+    let start = c .before in
+    rw (c .if1 .left) at (start .pre .1)
 
 returns-2 : tie.Need-returns-2
-returns-2 c = rw (c .before .if1 .left) (c .lowered .ensures)
+returns-2 c =
+    let else1 = c .before in
+    rw (else1 .if1 .left) (c .lowered .ensures)
 
 pub shift-one-spec : {M : Type 1} → statement M
 shift-one-spec = tie.close (tie.spec cast-x raised-requires returns lowered-requires returns-2)

@@ -51,7 +51,11 @@ mul-credit-top : tie.Need-mul-credit-top
 mul-credit-top c = search needs
 
 credit-top-requires-2 : tie.Need-credit-top-requires-2
-credit-top-requires-2 c κs = (purchase-numbers (c .before .before .before .args .s) 0 (c .before .before .before .pre .0) _ _ (c .before .p2 .given .1), omega arith)
+credit-top-requires-2 c κs =
+    let after-p2 = c .before in
+    let at-match-keys2 = after-p2 .before in
+    let start = at-match-keys2 .before in
+    (purchase-numbers (start .args .s) 0 (start .pre .0) _ _ (after-p2 .p2 .given .1), omega arith)
 
 enum-told : tie.Need-enum-told
 enum-told c = search needs
@@ -67,10 +71,14 @@ returns c =
     (unit-lined true (at-p .p .given .0 .0) _ (rw (at-r .before .before .b .ensures, at-r .before .c .ensures, at-r .r .ensures) at (c .credit-top .ensures)))
 
 returns-2 : tie.Need-returns-2
-returns-2 c = rw (c .before .before .p2 .given .1) (purchase-lined true (c .before .before .p2 .given .0 .0) (c .before .before .p2 .given .0 .1 .0) _ _ (c .credit-top2 .ensures))
+returns-2 c =
+    let after-p2 = c .before .before in
+    rw (after-p2 .p2 .given .1) (purchase-lined true (after-p2 .p2 .given .0 .0) (after-p2 .p2 .given .0 .1 .0) _ _ (c .credit-top2 .ensures))
 
 returns-3 : tie.Need-returns-3
-returns-3 c = rw (c .before .enum-told .given .1) (fixed-lined true (c .before .enum-told .given .0 .0) _ _ (c .credit-top3 .ensures))
+returns-3 c =
+    let after-enum-told = c .before in
+    rw (after-enum-told .enum-told .given .1) (fixed-lined true (after-enum-told .enum-told .given .0 .0) _ _ (c .credit-top3 .ensures))
 
 pub up-top-spec : {M : Type 1} → statement M
 up-top-spec =

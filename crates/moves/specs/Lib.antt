@@ -1,0 +1,3 @@
+pub mod MovesKept
+pub mod LaterStates
+pub mod ToldIsTaken
