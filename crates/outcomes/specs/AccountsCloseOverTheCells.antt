@@ -33,7 +33,7 @@ pub record Whole (h : Hour) (xs : List ℤ) : Type 0 where
   pub few : length xs ≤ 4160
 
 pub accepted-whole : (h : Hour) (size : ℕ) (xs : List ℤ) → reconstruction h size ≡ accepted xs → Whole h xs
-unfolding calls.reconstruction
+unfolding calls.reconstruction calls.cellsFor
 accepted-whole h size xs e =
     let a = refuse-passed (not (valid h)) NoDeck (refuse (ltb size (cellCount h)) Short (answer h)) xs e in
     let b = refuse-passed (ltb size (cellCount h)) Short (answer h) xs (a .1) in

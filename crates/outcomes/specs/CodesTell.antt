@@ -192,7 +192,7 @@ groups-told h ns (suc k) = then-told 999 Any Any (groups h ns k) (group h ns (de
         (remainder-told (descending k) _ _ _ _ (omega arith)) (λ us t. tt)
 
 reconstruction-told : (h : Hour) (size : ℕ) → Gone (reconstruction h size)
-unfolding calls.reconstruction hours.answer hours.reconstructed
+unfolding calls.reconstruction calls.cellsFor hours.answer hours.reconstructed
 reconstruction-told h size =
     refuse-told 999 Any (not (valid h)) NoDeck _ (omega arith) λ a. refuse-told 999 Any (ltb size (cellCount h)) Short _ (omega arith) λ b.
     then-told 999 Any Any (groups h (numbers h) 1000) (λ p. accepted (cellsOf h p)) (groups-told h (numbers h) 1000) (λ p t. tt)

@@ -15,7 +15,7 @@ use Rattle.rules.specs.Lines.{fieldsAt, seen, written, ranged, labelled, letter
 use Rattle.rules.specs.Record.{started, body}
 use Rattle.rules.specs.Reading.{taken, feed, headed, finished, linesFrom, reading}
 use Rattle.rules.specs.Writing.{texts, deckText, sameBy, sameHour, allLabelled, given, valid}
-use Rattle.rules.specs.Calls.{reconstruction}
+use Rattle.rules.specs.Calls.{cellsFor, reconstruction}
 use Rattle.rules.specs.declared.Hour.{Hour}
 use Rattle.outcomes.specs.FirstGroupBalances.{greatest, firstGroup}
 
@@ -50,5 +50,5 @@ pub record Computed : Type 0 where
   pub given : valid twoGroups ≡ true
 
 pub computed : Computed
-unfolding hourOf fiveMwh sixMwh twoGroups greatest firstGroup sumTo listTo allTo anyTo findTo sameList curveCost matches ruleA ruleB ruleC ruleD ruleE placed numbered changed directed groupLine groupLines room unitRoom better next move plain headroom toEmergency unload credit remainder upTo numbers share shared rest group groups reconstructed cellsOf answer byteAt run numberAt digitsIn digits escape unescape closing labelEnd allCharacters isLabel spacedNumber spacedLabel basisAt spacedBasis fieldsAt seen written ranged labelled letterOf placesAt lineAt lineText started body taken feed headed finished linesFrom reading texts deckText sameBy sameHour allLabelled given valid reconstruction
+unfolding hourOf fiveMwh sixMwh twoGroups greatest firstGroup sumTo listTo allTo anyTo findTo sameList curveCost matches ruleA ruleB ruleC ruleD ruleE placed numbered changed directed groupLine groupLines room unitRoom better next move plain headroom toEmergency unload credit remainder upTo numbers share shared rest group groups reconstructed cellsOf answer byteAt run numberAt digitsIn digits escape unescape closing labelEnd allCharacters isLabel spacedNumber spacedLabel basisAt spacedBasis fieldsAt seen written ranged labelled letterOf placesAt lineAt lineText started body taken feed headed finished linesFrom reading texts deckText sameBy sameHour allLabelled given valid cellsFor reconstruction
 computed = record { five = refl; six = refl; whole = refl; first = refl; given = refl }
