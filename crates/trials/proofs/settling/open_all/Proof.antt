@@ -1,11 +1,23 @@
 -- `settling::open_all` meets its contract: the sources passed are opened.
-use mathlib.Core.Path.{refl}
-use Prim.Native.Nat.{_-_, _≤_}
+use mathlib.Core.List.{List, map}
+use mathlib.Core.Path.{_≡_, sym, _∙_}
+use Prim.Native.Nat.{ℕ, _-_, _≤_}
 use native.Mathlib.Omega.{arith}
 use borrow.Author.Needs.{needs}
-use Rattle.groups.specs.StatesOpened.{Opened, opened-none, opened-more, opened-all}
+use lib.ListN.{length, length-map, List·getD-map}
+use lib.Seq.{ext-getD}
+use Rattle.groups.specs.StatesOpened.{Opened, opened-none, opened-more}
+use Rattle.rules.specs.Group.{noRunning, opened}
+use Rattle.rules.specs.Record.{noSource}
+use Rattle.rules.specs.declared.Running.{Running}
+use Rattle.rules.specs.declared.Source.{Source}
 use Rattle.trials.proofs.settling.open_all.Statement.{statement}
 use Rattle.trials.proofs.settling.open_all.Tie as tie
+
+all-opened : (xs : List Source) (ss : List Running) (n : ℕ) → length xs ≡ 32 → 32 ≤ n → Opened xs n ss → ss ≡ map (λ s. opened (s .plant)) xs
+all-opened xs ss n k l o =
+    ext-getD noRunning ss (map (λ (s : Source). opened (s .plant)) xs) (o .long ∙ sym k ∙ sym (length-map xs (λ (s : Source). opened (s .plant))))
+    (λ i m. o .at i (omega (arith, o .long)) ∙ sym (List·getD-map (λ (s : Source). opened (s .plant)) xs i noSource))
 
 abbrev Inv-loop : tie.InvT-loop
 Inv-loop sources states₀ i₀ states i = (i ≤ 32) × Opened sources i states
@@ -17,7 +29,7 @@ open-requires : tie.Need-open-requires Inv-loop μ-loop
 open-requires c κs = search needs
 
 loop-holds : tie.Need-loop-holds Inv-loop μ-loop
-loop-holds c = (omega arith, opened-none _ _ refl)
+loop-holds c = (omega arith, opened-none _ _ (c .open .ensures))
 
 mul-s : tie.Need-mul-s Inv-loop μ-loop
 mul-s c = search needs
@@ -41,15 +53,10 @@ loop-less : tie.Need-loop-less Inv-loop μ-loop
 loop-less c = search needs
 
 loop-again : tie.Need-loop-again Inv-loop μ-loop
-loop-again c =
-    let in-loop = c .before .before in
-    let at-loop = in-loop .before in
-    (omega arith, opened-more _ _ _ _ (omega arith) (at-loop .loop .inv .1) (c .open2 .ensures))
+loop-again c = (omega arith, opened-more _ _ _ _ (omega arith) (c .before .before .before .loop .inv .1) (c .open2 .ensures))
 
 returns : tie.Need-returns Inv-loop μ-loop
-returns c =
-    let at-loop = c .before in
-    opened-all _ _ _ (search needs) (c .loop-test .left) (at-loop .loop .inv .1)
+returns c = all-opened _ _ _ (search needs) (c .loop-test .left) (c .before .loop .inv .1)
 
 pub open-all-spec : {M : Type 1} → statement M
 open-all-spec =
