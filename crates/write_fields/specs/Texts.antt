@@ -62,8 +62,8 @@ eightAt w i rest =
     getD w i 0 ∷ getD w (i + 1) 0 ∷ getD w (i + 2) 0 ∷ getD w (i + 3) 0 ∷ getD w (i + 4) 0 ∷ getD w (i + 5) 0 ∷ getD w (i + 6) 0 ∷ getD w (i + 7) 0 ∷ rest
 
 -- all of a part from its byte i on
-abbrev pub leftText : List ℕ → ℕ → Text
-leftText w i rest = drop i w ++ rest
+abbrev pub fromText : List ℕ → ℕ → Text
+fromText w i rest = drop i w ++ rest
 
 -- The rest stands after each.
 
@@ -141,53 +141,53 @@ escape-all (suc n) (b ∷ bs) rest =
 -- A part's bytes one after another.
 
 -- one byte and what comes after it
-left-next : (w rest : List ℕ) {t : List ℕ} (i j : ℕ) → j ≡ i + 1 → i < length w → t ≡ leftText w j rest → getD w i 0 ∷ t ≡ leftText w i rest
-left-next w rest i j e h k =
-    ap (λ (l : List ℕ). getD w i 0 ∷ l) (k ∙ ap (λ (n : ℕ). leftText w n rest) (e ∙ add-one i)) ∙ sym (ap (λ (l : List ℕ). l ++ rest) (drop-cons w i 0 h))
+from-next : (w rest : List ℕ) {t : List ℕ} (i j : ℕ) → j ≡ i + 1 → i < length w → t ≡ fromText w j rest → getD w i 0 ∷ t ≡ fromText w i rest
+from-next w rest i j e h k =
+    ap (λ (l : List ℕ). getD w i 0 ∷ l) (k ∙ ap (λ (n : ℕ). fromText w n rest) (e ∙ add-one i)) ∙ sym (ap (λ (l : List ℕ). l ++ rest) (drop-cons w i 0 h))
 
 module _ (w : List ℕ) (i : ℕ) where
-  pub left-one : i < length w → length w < i + 2 → (rest : List ℕ) → getD w i 0 ∷ rest ≡ leftText w i rest
-  left-one h l rest =
+  pub from-one : i < length w → length w < i + 2 → (rest : List ℕ) → getD w i 0 ∷ rest ≡ fromText w i rest
+  from-one h l rest =
       let past : length w ≤ i + 1 = omega arith in
-      left-next w rest i (i + 1) refl h (sym (ap (λ (l : List ℕ). l ++ rest) (drop-of-length-le w past)))
+      from-next w rest i (i + 1) refl h (sym (ap (λ (l : List ℕ). l ++ rest) (drop-of-length-le w past)))
 
-  pub left-none : length w ≤ i → (rest : List ℕ) → rest ≡ leftText w i rest
-  left-none h rest = sym (ap (λ (l : List ℕ). l ++ rest) (drop-of-length-le w h))
+  pub from-none : length w ≤ i → (rest : List ℕ) → rest ≡ fromText w i rest
+  from-none h rest = sym (ap (λ (l : List ℕ). l ++ rest) (drop-of-length-le w h))
 
-  pub left-two : i + 2 ≤ length w → (rest : List ℕ) → getD w i 0 ∷ getD w (i + 1) 0 ∷ leftText w (i + 2) rest ≡ leftText w i rest
-  left-two h rest = left-next w rest i (i + 1) refl (omega arith) (left-next w rest (i + 1) (i + 2) (omega arith) (omega arith) refl)
+  pub from-two : i + 2 ≤ length w → (rest : List ℕ) → getD w i 0 ∷ getD w (i + 1) 0 ∷ fromText w (i + 2) rest ≡ fromText w i rest
+  from-two h rest = from-next w rest i (i + 1) refl (omega arith) (from-next w rest (i + 1) (i + 2) (omega arith) (omega arith) refl)
 
-  pub left-four : i + 4 ≤ length w → (rest : List ℕ) → fourAt w i (leftText w (i + 4) rest) ≡ leftText w i rest
-  left-four h rest =
-      left-next w rest i (i + 1) refl (omega arith)
-      (left-next w rest (i + 1) (i + 2) (omega arith) (omega arith)
-      (left-next w rest (i + 2) (i + 3) (omega arith) (omega arith) (left-next w rest (i + 3) (i + 4) (omega arith) (omega arith) refl)))
+  pub from-four : i + 4 ≤ length w → (rest : List ℕ) → fourAt w i (fromText w (i + 4) rest) ≡ fromText w i rest
+  from-four h rest =
+      from-next w rest i (i + 1) refl (omega arith)
+      (from-next w rest (i + 1) (i + 2) (omega arith) (omega arith)
+      (from-next w rest (i + 2) (i + 3) (omega arith) (omega arith) (from-next w rest (i + 3) (i + 4) (omega arith) (omega arith) refl)))
 
-pub left-eight : (w : List ℕ) (i : ℕ) → i + 8 ≤ length w → (rest : List ℕ) → eightAt w i (leftText w (i + 8) rest) ≡ leftText w i rest
-left-eight w i h rest =
-    left-next w rest i (i + 1) refl (omega arith)
-    (left-next w rest (i + 1) (i + 2) (omega arith) (omega arith)
-    (left-next w rest (i + 2) (i + 3) (omega arith) (omega arith)
-    (left-next w rest (i + 3) (i + 4) (omega arith) (omega arith)
-    (left-next w rest (i + 4) (i + 5) (omega arith) (omega arith)
-    (left-next w rest (i + 5) (i + 6) (omega arith) (omega arith)
-    (left-next w rest (i + 6) (i + 7) (omega arith) (omega arith) (left-next w rest (i + 7) (i + 8) (omega arith) (omega arith) refl)))))))
+pub from-eight : (w : List ℕ) (i : ℕ) → i + 8 ≤ length w → (rest : List ℕ) → eightAt w i (fromText w (i + 8) rest) ≡ fromText w i rest
+from-eight w i h rest =
+    from-next w rest i (i + 1) refl (omega arith)
+    (from-next w rest (i + 1) (i + 2) (omega arith) (omega arith)
+    (from-next w rest (i + 2) (i + 3) (omega arith) (omega arith)
+    (from-next w rest (i + 3) (i + 4) (omega arith) (omega arith)
+    (from-next w rest (i + 4) (i + 5) (omega arith) (omega arith)
+    (from-next w rest (i + 5) (i + 6) (omega arith) (omega arith)
+    (from-next w rest (i + 6) (i + 7) (omega arith) (omega arith) (from-next w rest (i + 7) (i + 8) (omega arith) (omega arith) refl)))))))
 
 -- a part of which its first i bytes stand
 pub record Copied (before : List ℕ) (at : ℕ) (after : List ℕ) (next : ℕ) (w : List ℕ) (i : ℕ) : Type 0 where
   pub text : Text
   pub inked : Inked before at after next text
-  pub whole : (rest : List ℕ) → text (leftText w i rest) ≡ w ++ rest
+  pub whole : (rest : List ℕ) → text (fromText w i rest) ≡ w ++ rest
 
 pub copied-none : (a : List ℕ) (at : ℕ) (w : List ℕ) → Copied a at a at w 0
 copied-none a at w = record { text = λ rest. rest; inked = inked-nothing a at; whole = λ rest. refl }
 
 module _ {a : List ℕ} {at : ℕ} {b : List ℕ} {p : ℕ} {w : List ℕ} {i : ℕ} (x : Copied a at b p w i) where
-  pub copied-more : {c : List ℕ} {q : ℕ} {f : Text} (j : ℕ) → Inked b p c q f → ((rest : List ℕ) → f (leftText w j rest) ≡ leftText w i rest) → Copied a at c q w j
+  pub copied-more : {c : List ℕ} {q : ℕ} {f : Text} (j : ℕ) → Inked b p c q f → ((rest : List ℕ) → f (fromText w j rest) ≡ fromText w i rest) → Copied a at c q w j
   copied-more {f} j y same = record { text = λ rest. x .text (f rest); inked = inked-then (x .inked) y; whole = λ rest. ap (x .text) (same rest) ∙ x .whole rest }
 
-  pub copied-all : {c : List ℕ} {q : ℕ} → Inked b p c q (leftText w i) → Inked a at c q (λ rest. w ++ rest)
+  pub copied-all : {c : List ℕ} {q : ℕ} → Inked b p c q (fromText w i) → Inked a at c q (λ rest. w ++ rest)
   copied-all y = inked-as (x .whole) (inked-then (x .inked) y)
 
-  pub copied-room : Room a at w → Room b p (leftText w i [])
+  pub copied-room : Room a at w → Room b p (fromText w i [])
   copied-room r = room-after (x .inked) (room-as (x .whole [] ∙ append-nil w) r)

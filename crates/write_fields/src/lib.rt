@@ -7,7 +7,7 @@ ghost use lib.ListN.{length};
 ghost use Rattle.rules.specs.Fields.{digits, basisText};
 ghost use Rattle.rules.specs.Record.{chars};
 ghost use Rattle.write_fields.specs.Inked.{Room, Inked};
-ghost use Rattle.write_fields.specs.Texts.{fourAt, eightAt, leftText, twoDigits, numberText, spacedText, numbersText, characterText, escapeText, quotedText};
+ghost use Rattle.write_fields.specs.Texts.{fourAt, eightAt, fromText, twoDigits, numberText, spacedText, numbersText, characterText, escapeText, quotedText};
 use rules::Basis;
 use rules::Label;
 
@@ -61,8 +61,8 @@ fn copy_eight(buf: &mut [u8], at: usize, src: &[u8], i: usize) -> usize
 
 // The last byte of a part, where one is left.
 fn copy_last(buf: &mut [u8], at: usize, src: &[u8], i: usize) -> usize
-    requires { ⌜ (length (now src) < i + 2) × Room (now buf) at (leftText (now src) i []) ⌝ }
-    ensures { λ r. ⌜ Inked (now (buf .entry)) at (now (buf .exit)) r (leftText (now (src .entry)) i) ⌝ }
+    requires { ⌜ (length (now src) < i + 2) × Room (now buf) at (fromText (now src) i []) ⌝ }
+    ensures { λ r. ⌜ Inked (now (buf .entry)) at (now (buf .exit)) r (fromText (now (src .entry)) i) ⌝ }
 {
     if src.len() <= i {
         return at;
@@ -72,8 +72,8 @@ fn copy_last(buf: &mut [u8], at: usize, src: &[u8], i: usize) -> usize
 
 // What is left of a part below four bytes.
 fn copy_few(buf: &mut [u8], at: usize, src: &[u8], i: usize) -> usize
-    requires { ⌜ (i ≤ length (now src)) × (length (now src) < i + 4) × Room (now buf) at (leftText (now src) i []) ⌝ }
-    ensures { λ r. ⌜ Inked (now (buf .entry)) at (now (buf .exit)) r (leftText (now (src .entry)) i) ⌝ }
+    requires { ⌜ (i ≤ length (now src)) × (length (now src) < i + 4) × Room (now buf) at (fromText (now src) i []) ⌝ }
+    ensures { λ r. ⌜ Inked (now (buf .entry)) at (now (buf .exit)) r (fromText (now (src .entry)) i) ⌝ }
 {
     if src.len() - i < 2 {
         return copy_last(buf, at, src, i);
@@ -86,8 +86,8 @@ fn copy_few(buf: &mut [u8], at: usize, src: &[u8], i: usize) -> usize
 
 // What is left of a part below eight bytes.
 fn copy_rest(buf: &mut [u8], at: usize, src: &[u8], i: usize) -> usize
-    requires { ⌜ (i ≤ length (now src)) × (length (now src) < i + 8) × Room (now buf) at (leftText (now src) i []) ⌝ }
-    ensures { λ r. ⌜ Inked (now (buf .entry)) at (now (buf .exit)) r (leftText (now (src .entry)) i) ⌝ }
+    requires { ⌜ (i ≤ length (now src)) × (length (now src) < i + 8) × Room (now buf) at (fromText (now src) i []) ⌝ }
+    ensures { λ r. ⌜ Inked (now (buf .entry)) at (now (buf .exit)) r (fromText (now (src .entry)) i) ⌝ }
 {
     if src.len() - i < 4 {
         return copy_few(buf, at, src, i);

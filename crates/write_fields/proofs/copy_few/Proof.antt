@@ -3,7 +3,7 @@ use borrow.Author.Needs.{needs}
 use mathlib.Core.List.{[]}
 use native.Mathlib.Omega.{arith}
 use Rattle.write_fields.specs.Inked.{inked-as, inked-then, room-as, room-first, room-after, front-two}
-use Rattle.write_fields.specs.Texts.{left-two}
+use Rattle.write_fields.specs.Texts.{from-two}
 use Rattle.write_fields.proofs.copy_few.Statement.{statement}
 use Rattle.write_fields.proofs.copy_few.Tie as tie
 
@@ -31,7 +31,7 @@ shared-slice-read-b c = search needs
 put-two-requires : tie.Need-put-two-requires
 put-two-requires c κs =
     let s = c .before .before .before .before .before .before in
-    room-first (front-two _ _) (room-as (left-two (s .args .src .now) (s .args .i) (omega arith) []) (s .pre .2))
+    room-first (front-two _ _) (room-as (from-two (s .args .src .now) (s .args .i) (omega arith) []) (s .pre .2))
 
 add-copy-last : tie.Need-add-copy-last
 add-copy-last c = search needs
@@ -40,7 +40,7 @@ copy-last-requires-2 : tie.Need-copy-last-requires-2
 copy-last-requires-2 c κs =
     let put-two = c .before .before .before in
     let s = put-two .before .before .before .before .before .before .before in
-    (omega arith, room-after (put-two .put-two .ensures) (room-as (left-two (s .args .src .now) (s .args .i) (omega arith) []) (s .pre .2)))
+    (omega arith, room-after (put-two .put-two .ensures) (room-as (from-two (s .args .src .now) (s .args .i) (omega arith) []) (s .pre .2)))
 
 same-length-2 : tie.Need-same-length-2
 same-length-2 c = search needs
@@ -50,7 +50,7 @@ returns-2 c =
     let copy-last2 = c .before .before in
     let put-two = copy-last2 .before .before .before .before in
     let s = put-two .before .before .before .before .before .before .before in
-    inked-as (left-two (s .args .src .now) (s .args .i) (omega arith)) (inked-then (put-two .put-two .ensures) (copy-last2 .copy-last2 .ensures))
+    inked-as (from-two (s .args .src .now) (s .args .i) (omega arith)) (inked-then (put-two .put-two .ensures) (copy-last2 .copy-last2 .ensures))
 
 pub copy-few-spec : {M : Type 1} → statement M
 copy-few-spec =

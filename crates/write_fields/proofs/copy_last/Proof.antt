@@ -3,7 +3,7 @@ use borrow.Author.Needs.{needs}
 use mathlib.Core.Path.{refl}
 use mathlib.Core.List.{[]}
 use Rattle.write_fields.specs.Inked.{inked-as, inked-nothing, room-as}
-use Rattle.write_fields.specs.Texts.{left-none, left-one}
+use Rattle.write_fields.specs.Texts.{from-none, from-one}
 use Rattle.write_fields.proofs.copy_last.Statement.{statement}
 use Rattle.write_fields.proofs.copy_last.Tie as tie
 
@@ -11,7 +11,7 @@ returns : tie.Need-returns
 returns c =
     let then1 = c in
     let s = then1 .before .before .before in
-    inked-as (left-none (s .args .src .now) (s .args .i) (then1 .if1 .taken)) (inked-nothing (s .args .buf .now) (s .args .at))
+    inked-as (from-none (s .args .src .now) (s .args .i) (then1 .if1 .taken)) (inked-nothing (s .args .buf .now) (s .args .at))
 
 shared-slice-read-put-byte : tie.Need-shared-slice-read-put-byte
 shared-slice-read-put-byte c = search needs
@@ -20,7 +20,7 @@ put-byte-requires : tie.Need-put-byte-requires
 put-byte-requires c κs =
     let else1 = c .before .before in
     let s = else1 .before .before .before in
-    room-as (left-one (s .args .src .now) (s .args .i) (else1 .if1 .left) (s .pre .0) []) (s .pre .1)
+    room-as (from-one (s .args .src .now) (s .args .i) (else1 .if1 .left) (s .pre .0) []) (s .pre .1)
 
 same-length : tie.Need-same-length
 same-length c = search needs
@@ -30,7 +30,7 @@ returns-2 c =
     let put-byte = c .before .before in
     let else1 = put-byte .before .before .before in
     let s = else1 .before .before .before in
-    inked-as (left-one (s .args .src .now) (s .args .i) (else1 .if1 .left) (s .pre .0)) (put-byte .put-byte .ensures)
+    inked-as (from-one (s .args .src .now) (s .args .i) (else1 .if1 .left) (s .pre .0)) (put-byte .put-byte .ensures)
 
 pub copy-last-spec : {M : Type 1} → statement M
 copy-last-spec =

@@ -5,7 +5,7 @@ use Prim.Native.Nat.{_+_, _-_, _≤_}
 use native.Mathlib.Omega.{arith}
 use lib.ListN.{length}
 use Rattle.write_fields.specs.Inked.{room-as, room-first}
-use Rattle.write_fields.specs.Texts.{Copied, copied-none, copied-more, copied-all, copied-room, front-eight, left-eight}
+use Rattle.write_fields.specs.Texts.{Copied, copied-none, copied-more, copied-all, copied-room, front-eight, from-eight}
 use Rattle.write_fields.proofs.put_bytes.Statement.{statement}
 use Rattle.write_fields.proofs.put_bytes.Tie as tie
 
@@ -25,7 +25,7 @@ copy-eight-requires : tie.Need-copy-eight-requires Inv-loop μ-loop
 copy-eight-requires c κs =
     let at-loop = c .before .before in
     let s = at-loop .before .before .before in
-    (omega arith, room-first (front-eight (s .args .src .now) (at-loop .loop .i)) (room-as (left-eight (s .args .src .now) (at-loop .loop .i) (omega arith) []) (copied-room (at-loop .loop .inv .1) (s .pre))))
+    (omega arith, room-first (front-eight (s .args .src .now) (at-loop .loop .i)) (room-as (from-eight (s .args .src .now) (at-loop .loop .i) (omega arith) []) (copied-room (at-loop .loop .inv .1) (s .pre))))
 
 add-i : tie.Need-add-i Inv-loop μ-loop
 add-i c = search needs
@@ -38,7 +38,7 @@ loop-again c =
     let copy-eight = c .before .before in
     let at-loop = copy-eight .before .before .before in
     let s = at-loop .before .before .before in
-    (search needs, copied-more (at-loop .loop .inv .1) (at-loop .loop .i + 8) (copy-eight .copy-eight .ensures) (left-eight (s .args .src .now) (at-loop .loop .i) (omega arith)))
+    (search needs, copied-more (at-loop .loop .inv .1) (at-loop .loop .i + 8) (copy-eight .copy-eight .ensures) (from-eight (s .args .src .now) (at-loop .loop .i) (omega arith)))
 
 copy-rest-requires : tie.Need-copy-rest-requires Inv-loop μ-loop
 copy-rest-requires c κs =
