@@ -71,6 +71,12 @@ module _ (h : Hour) where
       go (accepted p) oe e f = record { progress = p; run = oe; after = drop (length (cellsOf h p)) out; is = f }
       go (refused q) oe e f = let z : _≡_ {A = ℕ} 0 1 = cc in absurd (omega arith)
 
+-- what an hour's reconstruction answered, and left in the cells that it was lent
+pub record Ended (h : Hour) (end : Written) (cells : List ℤ) : Type 0 where
+  pub before : List ℤ
+  pub outcome : end ≡ writtenOf (answer h)
+  pub left : cells ≡ leaves (answer h) before
+
 -- a deck that is accepted, and its hour's numbers
 pub record ReadDeck (deck : List ℕ) (x : ScannedDeck) (ns : List InternalSequence) : Type 0 where
   pub read : reading deck ≡ accepted (x .hour)

@@ -17,7 +17,7 @@ ghost use Rattle.print_lines.specs.Lines.{printed};
 ghost use Rattle.print_report.specs.Widths.{pairWidth, openWidth};
 ghost use Rattle.print_report.specs.Rows.{Held, ShortLabels, SmallFirst, Summed, rowText, rowAt, openAt};
 ghost use Rattle.print_report.specs.HourRows.{Answered};
-ghost use Rattle.print_report.specs.Printing.{ReadDeck, handed};
+ghost use Rattle.print_report.specs.Printing.{ReadDeck, Ended, handed};
 use deck::Place;
 use deck::ScannedDeck;
 use rules::Hour;
@@ -303,20 +303,19 @@ fn fill_cells(h: Hour, numbers: [InternalSequence; 32], cells: &mut [i64]) -> Wr
     reconstruct::price(h, cells)
 }
 
-// The report of a deck that was read, with memory for its cells.
-fn print_hour(
+// The report of a deck that was read, of what its reconstruction answered and left in the cells.
+fn print_answer(
     out: &mut [u8],
     deck: &[u8],
     x: ScannedDeck,
     numbers: [InternalSequence; 32],
-    cells: &mut [i64],
+    end: Written,
+    cells: &[i64],
 ) -> Written
-    requires { ⌜ ReadDeck (now deck) x numbers × (cellCount (x .hour) ≤ length (now cells)) ⌝ }
+    requires { ⌜ ReadDeck (now deck) x numbers × Ended (x .hour) end (now cells) ⌝ }
     ensures outcome { λ r. ⌜ r ≡ writtenOf (reporting (now (deck .entry)) (length (now (out .entry)))) ⌝ }
     ensures bytes { λ _. ⌜ now (out .exit) ≡ leaves (reporting (now (deck .entry)) (length (now (out .entry)))) (now (out .entry)) ⌝ }
 {
-    let h = x.hour;
-    let end = fill_cells(h, numbers, cells);
     if let Written::Refused(r) = end {
         return hand_refusal(out, r);
     }
@@ -342,8 +341,10 @@ pub fn report(deck: &[u8], out: &mut [u8]) -> Written
     let count = h.ndeliveries * (h.nsources * PAIR_CELLS) + h.nsources * OPEN_CELLS;
     if count <= FEW_CELLS {
         let mut cells = [0i64; FEW_CELLS];
-        return print_hour(out, deck, x, numbers, &mut cells);
+        let end = fill_cells(h, numbers, &mut cells);
+        return print_answer(out, deck, x, numbers, end, &cells);
     }
     let mut cells = [0i64; MOST_CELLS];
-    print_hour(out, deck, x, numbers, &mut cells)
+    let end = fill_cells(h, numbers, &mut cells);
+    print_answer(out, deck, x, numbers, end, &cells)
 }

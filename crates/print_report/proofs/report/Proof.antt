@@ -49,7 +49,8 @@ numbers-requires c κs =
     let scan = enum-told .before .before in
     let s = scan .before .before .before in
     let read = scanned-accepted (s .args .deck .now) (scan .scan .result) (scan .scan .ensures) (enum-told .enum-told .given .1) in
-    placeable (scan .scan .result .hour) (accepted-is-valid (s .args .deck .now) (scan .scan .result .hour) read)
+    let valid = accepted-is-valid (s .args .deck .now) (scan .scan .result .hour) read in
+    placeable (scan .scan .result .hour) valid
 
 mul-count : tie.Need-mul-count
 mul-count c =
@@ -89,47 +90,74 @@ add-count c =
     let n : scan .scan .result .hour .nsources * pairWidth ≤ 128 = omega (arith, given .sources .few) in
     record { fits = omega (arith, given .sources .few, mul-le-mul (given .deliveries .few) n) }
 
-slice-aggregate-print-hour : tie.Need-slice-aggregate-print-hour
-slice-aggregate-print-hour c = search needs
+slice-aggregate-fill-cells : tie.Need-slice-aggregate-fill-cells
+slice-aggregate-fill-cells c = search needs
 
-print-hour-requires : tie.Need-print-hour-requires
-print-hour-requires c κs =
-    let then1 = c .before .before in
+fill-cells-requires : tie.Need-fill-cells-requires
+fill-cells-requires c κs =
+    let then1 = c .before in
     let numbers = then1 .before .before .before .before in
     let enum-told = numbers .before .before .before in
     let scan = enum-told .before .before in
     let s = scan .before .before .before in
+    let read = scanned-accepted (s .args .deck .now) (scan .scan .result) (scan .scan .ensures) (enum-told .enum-told .given .1) in
+    let valid = accepted-is-valid (s .args .deck .now) (scan .scan .result .hour) read in
     let long : _≡_ {A = ℕ} (length (replicate 512 (pos 0))) 512 = refl in
-    (read-deck (s .args .deck .now) (scan .scan .result) _ (scan .scan .ensures) (enum-told .enum-told .given .1) (numbers .numbers .ensures), omega (arith, long, then1 .if1 .taken))
+    (valid, numbers .numbers .ensures, omega (arith, long, then1 .if1 .taken))
+
+slice-aggregate-print-answer : tie.Need-slice-aggregate-print-answer
+slice-aggregate-print-answer c = search needs
+
+print-answer-requires : tie.Need-print-answer-requires
+print-answer-requires c κs =
+    let fill-cells = c .before .before .before in
+    let numbers = fill-cells .before .before .before .before .before .before in
+    let enum-told = numbers .before .before .before in
+    let scan = enum-told .before .before in
+    let s = scan .before .before .before in
+    (read-deck (s .args .deck .now) (scan .scan .result) _ (scan .scan .ensures) (enum-told .enum-told .given .1) (numbers .numbers .ensures), record { before = replicate 512 (pos 0); outcome = fill-cells .fill-cells .ensures .0; left = fill-cells .fill-cells .ensures .1 })
 
 same-length-2 : tie.Need-same-length-2
 same-length-2 c = search needs
 
 returns-2 : tie.Need-returns-2
 returns-2 c =
-    let print-hour = c .before .before .before in
-    print-hour .print-hour .ensures
+    let print-answer = c .before .before in
+    print-answer .print-answer .ensures
 
-slice-aggregate-print-hour-2 : tie.Need-slice-aggregate-print-hour-2
-slice-aggregate-print-hour-2 c = search needs
+slice-aggregate-fill-cells-2 : tie.Need-slice-aggregate-fill-cells-2
+slice-aggregate-fill-cells-2 c = search needs
 
-print-hour-requires-2 : tie.Need-print-hour-requires-2
-print-hour-requires-2 c κs =
-    let numbers = c .before .before .before .before .before .before in
+fill-cells-requires-2 : tie.Need-fill-cells-requires-2
+fill-cells-requires-2 c κs =
+    let numbers = c .before .before .before .before .before in
     let enum-told = numbers .before .before .before in
     let scan = enum-told .before .before in
     let s = scan .before .before .before in
     let read = scanned-accepted (s .args .deck .now) (scan .scan .result) (scan .scan .ensures) (enum-told .enum-told .given .1) in
+    let valid = accepted-is-valid (s .args .deck .now) (scan .scan .result .hour) read in
     let long : _≡_ {A = ℕ} (length (replicate 4160 (pos 0))) 4160 = refl in
-    (read-deck (s .args .deck .now) (scan .scan .result) _ (scan .scan .ensures) (enum-told .enum-told .given .1) (numbers .numbers .ensures), omega (arith, long, count-few (scan .scan .result .hour) (accepted-is-valid (s .args .deck .now) (scan .scan .result .hour) read)))
+    (valid, numbers .numbers .ensures, omega (arith, long, count-few (scan .scan .result .hour) valid))
+
+slice-aggregate-print-answer-2 : tie.Need-slice-aggregate-print-answer-2
+slice-aggregate-print-answer-2 c = search needs
+
+print-answer-requires-2 : tie.Need-print-answer-requires-2
+print-answer-requires-2 c κs =
+    let fill-cells2 = c .before .before .before in
+    let numbers = fill-cells2 .before .before .before .before .before .before in
+    let enum-told = numbers .before .before .before in
+    let scan = enum-told .before .before in
+    let s = scan .before .before .before in
+    (read-deck (s .args .deck .now) (scan .scan .result) _ (scan .scan .ensures) (enum-told .enum-told .given .1) (numbers .numbers .ensures), record { before = replicate 4160 (pos 0); outcome = fill-cells2 .fill-cells2 .ensures .0; left = fill-cells2 .fill-cells2 .ensures .1 })
 
 same-length-3 : tie.Need-same-length-3
 same-length-3 c = search needs
 
 returns-3 : tie.Need-returns-3
 returns-3 c =
-    let print-hour2 = c .before .before .before in
-    print-hour2 .print-hour2 .ensures
+    let print-answer2 = c .before .before in
+    print-answer2 .print-answer2 .ensures
 
 pub report-spec : {M : Type 1} → statement M
 report-spec =
@@ -146,11 +174,15 @@ report-spec =
     mul-count-2
     mul-count-3
     add-count
-    slice-aggregate-print-hour
-    print-hour-requires
+    slice-aggregate-fill-cells
+    fill-cells-requires
+    slice-aggregate-print-answer
+    print-answer-requires
     same-length-2
     returns-2
-    slice-aggregate-print-hour-2
-    print-hour-requires-2
+    slice-aggregate-fill-cells-2
+    fill-cells-requires-2
+    slice-aggregate-print-answer-2
+    print-answer-requires-2
     same-length-3
     returns-3)
