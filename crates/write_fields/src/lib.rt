@@ -154,17 +154,28 @@ fn put_few(buf: &mut [u8], at: usize, v: u64) -> usize
 }
 
 // A number's digits, the last four after the others.
-pub fn put_number(buf: &mut [u8], at: usize, v: u64) -> usize
+fn put_many(buf: &mut [u8], at: usize, v: u64) -> usize
     requires { ⌜ Room (now buf) at (numberText v []) ⌝ }
     ensures { λ r. ⌜ Inked (now (buf .entry)) at (now (buf .exit)) r (numberText v) ⌝ }
 {
     if v < 10000 {
         return put_few(buf, at, v);
     }
-    let p = put_number(buf, at, v / 10000);
+    let p = put_many(buf, at, v / 10000);
     let last = v % 10000;
     let q = put_digits(buf, p, last / 100);
     put_digits(buf, q, last % 100)
+}
+
+// A number's digits; most numbers have one.
+pub fn put_number(buf: &mut [u8], at: usize, v: u64) -> usize
+    requires { ⌜ Room (now buf) at (numberText v []) ⌝ }
+    ensures { λ r. ⌜ Inked (now (buf .entry)) at (now (buf .exit)) r (numberText v) ⌝ }
+{
+    if v < 10 {
+        return put_byte(buf, at, b'0' + (v as u8));
+    }
+    put_many(buf, at, v)
 }
 
 // A space and a number.
