@@ -21,7 +21,7 @@ use Rattle.roundtrip.specs.GivenHour.{accepted-given}
 use Rattle.refusals.specs.Codes.{codeOf}
 use Rattle.label_places.specs.Places.{sourceStart, deliveryStart}
 use Rattle.label_places.specs.Walk.{source-told, delivery-told}
-use Rattle.print_report.specs.ReportAtMost131072.{report-at-most}
+use Rattle.print_report.specs.ReportFits.{report-fits}
 use Rattle.outcomes.specs.AccountsCloseOverTheCells.{accepted-whole}
 use Rattle.outcomes.specs.CodesTell.{deck-told, cells-told, number-least}
 use Rattle.barleyhood.specs.Linked as linked
@@ -94,7 +94,7 @@ report-tells s size code e = go (ltb size (length (report s))) e
   where
     go : (b : Bool) → code ≡ writtenCode (refuse b Short (accepted (report s))) → Tells code (refuse b Short (accepted (report s)))
     go true e = (omega (arith, e), omega (arith, e))
-    go false e = omega (arith, e, report-at-most s)
+    go false e = omega (arith, e, report-fits s)
 
 pub barleyhood-report : (κ : _) (a : _) (code : ℕ) (x : _) → barleyhood-report-call.Post κ a code x → Tells code (reporting (a .0 .now) (length (a .1 .0 .now)))
 barleyhood-report κ a code x p = report-tells (a .0 .now) (length (a .1 .0 .now)) code (p .0)

@@ -1,11 +1,12 @@
 -- Signed numbers as they are written and added.
 use mathlib.Core.Path.{_≡_, refl, ap, sym, _∙_}
 use mathlib.Core.Bool.{Bool, true, false}
-use mathlib.Core.List.{List, _∷_}
+use mathlib.Core.List.{List, [], _∷_, _++_}
 use Prim.Native.Nat.{ℕ, zero, suc, _+_, _≤_}
 use native.Mathlib.Decide.{decLt}
 use native.Mathlib.Omega.{arith}
 use lib.Dec.{T}
+use lib.ListN.{length, length-append}
 use borrow.Author.Tests.{lt-ltb, le-ltb, ltb-true}
 use lib.IntN.{ℤ, pos, negsuc, natAbs, negℤ, subℕ, _+ℤ_, _-ℤ_, +ℤ-one, +ℤ-idl, negℤ-negℤ}
 use lib.Signed.{ltZ, nonNeg}
@@ -14,9 +15,9 @@ use mir.Syntax.{w64}
 use mir.Val.{Fits, SFits, toZ, ofZ}
 use Rattle.laws.specs.Choices.{true-not-false}
 use Rattle.balance.specs.CellsFit.{SmallCell}
-use Rattle.rules.specs.declared.InternalSequence.{InternalSequence}
-use Rattle.write_fields.specs.Texts.{numberText, spacedText}
-use Rattle.print_lines.specs.Lines.{partText, signedSpaced, amountsText, pairText, openText}
+use Rattle.rules.specs.Fields.{digits}
+use Rattle.write_fields.specs.Texts.{numberText}
+use Rattle.print_lines.specs.Lines.{signedSpaced, tailText, lineText, openText}
 
 -- a signed number as the machine holds it
 abbrev pub held : ℤ → ℤ
@@ -24,14 +25,18 @@ held z = toZ w64 (ofZ w64 z)
 
 -- lines of amounts as the machine holds them
 
-pub amounts-held : {x y z : ℤ} → SFits w64 x → SFits w64 y → SFits w64 z → (rest : List ℕ) → amountsText (held x) (held y) (held z) rest ≡ amountsText x y z rest
-amounts-held a b c rest = rw (toZ-ofZ a, toZ-ofZ b, toZ-ofZ c)
+pub tail-held : {x y z : ℤ} → SFits w64 x → SFits w64 y → SFits w64 z → (rest : List ℕ) → tailText (held x) (held y) (held z) rest ≡ tailText x y z rest
+tail-held a b c rest = rw (toZ-ofZ a, toZ-ofZ b, toZ-ofZ c)
 
-pub pair-held : (d : List ℕ) (n : InternalSequence) (s : List ℕ) {x y z : ℤ} → SFits w64 x → SFits w64 y → SFits w64 z → (rest : List ℕ) → pairText d n s (held x) (held y) (held z) rest ≡ pairText d n s x y z rest
-pair-held d n s a b c rest = ap (λ (w : List ℕ). partText d (spacedText (n .0) (32 ∷ partText s w))) (amounts-held a b c rest)
+pub line-held : (head s : List ℕ) {x y z : ℤ} → SFits w64 x → SFits w64 y → SFits w64 z → (rest : List ℕ) → lineText head s (held x) (held y) (held z) rest ≡ lineText head s x y z rest
+line-held head s a b c rest = ap (λ (w : List ℕ). head ++ (s ++ w)) (tail-held a b c rest)
 
 pub open-held : (s : List ℕ) {x y : ℤ} → SFits w64 x → SFits w64 y → (rest : List ℕ) → openText s (held x) (held y) rest ≡ openText s x y rest
 open-held s a b rest = rw (toZ-ofZ a, toZ-ofZ b)
+
+-- a number whose bits are 0
+pub zero-held : (v : ℤ) → SFits w64 v → ofZ w64 v ≡ 0 → v ≡ pos 0
+zero-held v h e = sym (toZ-ofZ h) ∙ ap (toZ w64) e
 
 -- The size of a number below 0, by way of the number one above it, which has a size that fits.
 
@@ -94,6 +99,15 @@ pub plus-text : (v : ℤ) (n : ℕ) → SFits w64 v → ltZ (held v) (pos 0) ≡
 plus-text (pos m) n h e s rest = let k : n ≡ m = s ∙ ap natAbs (toZ-ofZ h) in rw k
 plus-text (negsuc m) n h e s rest = true-not-false (sign-held (negsuc m) false h e)
 
+-- How long both are.
+
+module _ (v : ℤ) (n k : ℕ) (h : SFits w64 v) (e : n ≡ natAbs (held v)) (d : k ≡ length (digits n)) where
+  pub minus-length : ltZ (held v) (pos 0) ≡ true → k + 2 ≡ length (signedSpaced v [])
+  minus-length b = omega (arith, ap length (minus-text v n h b e []), length-append (digits n) [])
+
+  pub plus-length : ltZ (held v) (pos 0) ≡ false → k + 1 ≡ length (signedSpaced v [])
+  plus-length b = omega (arith, ap length (plus-text v n h b e []), length-append (digits n) [])
+
 -- The sum of two cells.
 
 sub-most : (a b n : ℕ) → a ≤ n → b ≤ n → natAbs (subℕ a b) ≤ n
@@ -108,7 +122,7 @@ sum-most (pos a) (negsuc b) h k = sub-most a (suc b) 200_000_000_000_000 (omega 
 sum-most (negsuc a) (pos b) h k = sub-most b (suc a) 200_000_000_000_000 (omega arith) (omega arith)
 sum-most (negsuc a) (negsuc b) h k = omega arith
 
-fits-below : (z : ℤ) → natAbs z ≤ 200_000_000_000_000 → SFits w64 z
+pub fits-below : (z : ℤ) → natAbs z ≤ 200_000_000_000_000 → SFits w64 z
 fits-below (pos n) h = record { sfits = omega arith }
 fits-below (negsuc n) h = record { sfits = omega arith }
 

@@ -28,8 +28,10 @@ use Rattle.balance.specs.ValidHour.{valid-balances, valid-small}
 use Rattle.deck.specs.Answers.{Scanned}
 use Rattle.deck.specs.declared.ScannedDeck.{ScannedDeck}
 use Rattle.write_fields.specs.Inked.{Text, Room, Inked, Front, inked-place, inked-first, upTo, front-upTo}
-use Rattle.print_lines.specs.Lines.{pairText, openText, printed, pair-line, open-line}
-use Rattle.print_report.specs.Rows.{Held, SmallFirst, partAt, pairAt, rowAt, openAt, front-row, front-opens, row-within, upTo-same}
+use Rattle.print_lines.specs.Lines.{pairText, openText, printed, line-pair, pair-line, open-line, front-printed}
+use Rattle.print_report.specs.Rows.{Held, ShortLabels, SmallFirst, partAt, headAt, pairAt, rowAt, openAt, front-row-at, front-opens, row-within, upTo-same}
+use Rattle.print_report.specs.Widths.{pairWidth, openWidth}
+use Rattle.print_report.specs.LabelsShort.{labels-short}
 use Rattle.print_report.specs.HourReport.{pairsText, opensText, hourText, hour-lines}
 
 -- the cells of an hour that is reconstructed are small
@@ -60,7 +62,7 @@ abbrev pub rowsText : List ℕ → ScannedDeck → List InternalSequence → Lis
 rowsText deck x ns cells = upTo (rowAt deck (x .sources) (x .hour .nsources) (x .deliveries) ns cells) (x .hour .ndeliveries)
 
 abbrev pub leftText : List ℕ → ScannedDeck → List ℤ → Text
-leftText deck x cells = upTo (openAt deck (x .sources) cells (x .hour .ndeliveries * (x .hour .nsources * 4))) (x .hour .nsources)
+leftText deck x cells = upTo (openAt deck (x .sources) cells (x .hour .ndeliveries * (x .hour .nsources * pairWidth))) (x .hour .nsources)
 
 abbrev pub writtenText : List ℕ → ScannedDeck → List InternalSequence → List ℤ → Text
 writtenText deck x ns cells rest = printed (headerLine (x .hour)) (rowsText deck x ns cells (leftText deck x cells (printed end rest)))
@@ -68,10 +70,10 @@ writtenText deck x ns cells rest = printed (headerLine (x .hour)) (rowsText deck
 pub front-rows : (deck : List ℕ) (x : ScannedDeck) (ns : List InternalSequence) (cells : List ℤ) → Front (rowsText deck x ns cells)
 front-rows deck x ns cells =
     let n = x .hour .nsources in
-    front-upTo (rowAt deck (x .sources) n (x .deliveries) ns cells) (λ j. front-row deck (x .sources) n cells (j * (n * 4)) (partAt deck (x .deliveries) j) (internalAt ns j)) (x .hour .ndeliveries)
+    front-upTo (rowAt deck (x .sources) n (x .deliveries) ns cells) (λ j. front-row-at deck (x .sources) n (x .deliveries) ns cells j) (x .hour .ndeliveries)
 
 pub front-left : (deck : List ℕ) (x : ScannedDeck) (cells : List ℤ) → Front (leftText deck x cells)
-front-left deck x cells = front-opens deck (x .sources) cells (x .hour .ndeliveries * (x .hour .nsources * 4)) (x .hour .nsources)
+front-left deck x cells = front-opens deck (x .sources) cells (x .hour .ndeliveries * (x .hour .nsources * pairWidth)) (x .hour .nsources)
 
 -- the header of sums that were made
 pub header-same : (h : Hour) (g d : ℕ) → g ≡ generated h → d ≡ delivered h → (rest : List ℕ) → printed (hour g (h .losses) d (g - (h .losses + d))) rest ≡ printed (headerLine h) rest
@@ -101,14 +103,14 @@ module _ {deck : List ℕ} {x : ScannedDeck} {ns : List InternalSequence} {cells
   pub enough : cellCount h ≤ length cells
   enough = omega (arith, ap length (a .is), length-append (cellsOf h p) (a .after), cells-length h p)
 
-  pub small : SmallFirst cells (h .ndeliveries * (h .nsources * 4))
+  pub small : SmallFirst cells (h .ndeliveries * (h .nsources * pairWidth))
   small = record {
     there = omega (arith, enough);
     small = λ k l. let e = cell-is k (omega arith) in rw e (small-cells h p (accepted-is-valid deck h (a .read)) (a .run) k);
   }
 
   -- where the open lines' cells begin
-  pub base-fits : h .ndeliveries * (h .nsources * 4) ≤ 4096
+  pub base-fits : h .ndeliveries * (h .nsources * pairWidth) ≤ 4096
   base-fits =
       let n : h .nsources * 4 ≤ 128 = omega (arith, given .sources .few) in
       omega (arith, mul-le-mul (given .deliveries .few) n)
@@ -125,39 +127,51 @@ module _ {deck : List ℕ} {x : ScannedDeck} {ns : List InternalSequence} {cells
   delivery-part : (j : ℕ) → j < h .ndeliveries → partAt deck (x .deliveries) j ≡ escape (chars (deliveryAt h j .label))
   delivery-part j l = a .scanned .deliveries .each j .bytes ∙ rw (lt-ltb j (h .ndeliveries) l)
 
-  pair-cell : (j i k at : ℕ) → j < h .ndeliveries → i < h .nsources → k < 4 → at ≡ pairPlace h j i k → cellAt cells at ≡ getD (pairCells (p .cells) j i) k (pos 0)
-  pair-cell j i k at l m n e = ap (cellAt cells) e ∙ cell-is (pairPlace h j i k) (omega (arith, row-within j (h .ndeliveries) (h .nsources * 4) l)) ∙ pair-at h p j i k l m n
+  pub deliveries-short : ShortLabels deck (x .deliveries) (h .ndeliveries)
+  deliveries-short = record { short = λ j l. omega (arith, ap length (delivery-part j l), labels-short h (accepted-is-valid deck h (a .read)) .deliveries j l) }
 
-  open-cell : (i k at : ℕ) → i < h .nsources → k < 2 → at ≡ openPlace h i k → cellAt cells at ≡ getD (openCells (p .states) i) k (pos 0)
+  pair-cell : (j i k at : ℕ) → j < h .ndeliveries → i < h .nsources → k < pairWidth → at ≡ pairPlace h j i k → cellAt cells at ≡ getD (pairCells (p .cells) j i) k (pos 0)
+  pair-cell j i k at l m n e = ap (cellAt cells) e ∙ cell-is (pairPlace h j i k) (omega (arith, row-within j (h .ndeliveries) (h .nsources * pairWidth) l)) ∙ pair-at h p j i k l m n
+
+  open-cell : (i k at : ℕ) → i < h .nsources → k < openWidth → at ≡ openPlace h i k → cellAt cells at ≡ getD (openCells (p .states) i) k (pos 0)
   open-cell i k at m n e = ap (cellAt cells) e ∙ cell-is (openPlace h i k) (omega arith) ∙ open-at h p i k m n
 
   pair-written : (j i : ℕ) → j < h .ndeliveries → i < h .nsources → (rest : List ℕ)
-      → pairAt deck (x .sources) cells (j * (h .nsources * 4)) (partAt deck (x .deliveries) j) (internalAt ns j) i rest ≡ printed (pairLine h p j i) rest
+      → pairAt deck (x .sources) cells (j * (h .nsources * pairWidth)) (headAt deck (x .deliveries) ns j) i rest ≡ printed (pairLine h p j i) rest
   pair-written j i l m rest =
-      let c : (k at : ℕ) → k < 4 → at ≡ pairPlace h j i k → cellAt cells at ≡ getD (pairCells (p .cells) j i) k (pos 0) = λ k at n e. pair-cell j i k at l m n e in
-      let b = j * (h .nsources * 4) in
-      let two = c 2 (b + i * 4 + 2) (omega arith) (omega arith) in
-      let three = c 3 (b + i * 4 + 3) (omega arith) (omega arith) in
-      let sum : cellAt cells (b + i * 4 + 2) +ℤ cellAt cells (b + i * 4 + 3) ≡ p .cells j i directCost +ℤ p .cells j i incrementalCost =
-      ap (λ (z : ℤ). z +ℤ cellAt cells (b + i * 4 + 3)) two ∙ ap (λ (z : ℤ). p .cells j i directCost +ℤ z) three in
-      pair-same (delivery-part j l) (a .numbered j l) (source-part i m) (c 0 (b + i * 4) (omega arith) (omega arith)) (c 1 (b + i * 4 + 1) (omega arith) (omega arith)) sum rest
+      let k = j * (h .nsources * pairWidth) + i * pairWidth in
+      let c : (n at : ℕ) → n < pairWidth → at ≡ pairPlace h j i n → cellAt cells at ≡ getD (pairCells (p .cells) j i) n (pos 0) = λ n at l′ e. pair-cell j i n at l m l′ e in
+      let two = c 2 (k + 2) (omega arith) (omega arith) in
+      let three = c 3 (k + 3) (omega arith) (omega arith) in
+      let sum : cellAt cells (k + 2) +ℤ cellAt cells (k + 3) ≡ p .cells j i directCost +ℤ p .cells j i incrementalCost =
+      ap (λ (z : ℤ). z +ℤ cellAt cells (k + 3)) two ∙ ap (λ (z : ℤ). p .cells j i directCost +ℤ z) three in
+      line-pair (partAt deck (x .deliveries) j) (internalAt ns j) (partAt deck (x .sources) i) (cellAt cells k) (cellAt cells (k + 1)) (cellAt cells (k + 2) +ℤ cellAt cells (k + 3)) rest
+      ∙ pair-same (delivery-part j l) (a .numbered j l) (source-part i m) (c 0 k (omega arith) (omega arith)) (c 1 (k + 1) (omega arith) (omega arith)) sum rest
       ∙ pair-line (chars (deliveryAt h j .label)) (internalAt (numbers h) j) (chars (sourceAt h i .label)) (p .cells j i directMwh) (p .cells j i incrementalMwh) (p .cells j i directCost +ℤ p .cells j i incrementalCost) rest
 
-  open-written : (i : ℕ) → i < h .nsources → (rest : List ℕ) → openAt deck (x .sources) cells (h .ndeliveries * (h .nsources * 4)) i rest ≡ printed (openLine h p i) rest
+  open-written : (i : ℕ) → i < h .nsources → (rest : List ℕ) → openAt deck (x .sources) cells (h .ndeliveries * (h .nsources * pairWidth)) i rest ≡ printed (openLine h p i) rest
   open-written i m rest =
-      let b = h .ndeliveries * (h .nsources * 4) in
-      open-same (source-part i m) (open-cell i 0 (b + i * 2) m (omega arith) (omega arith)) (open-cell i 1 (b + i * 2 + 1) m (omega arith) (omega arith)) rest
+      let b = h .ndeliveries * (h .nsources * pairWidth) in
+      open-same (source-part i m) (open-cell i 0 (b + i * openWidth) m (omega arith) (omega arith)) (open-cell i 1 (b + i * openWidth + 1) m (omega arith) (omega arith)) rest
       ∙ open-line (chars (sourceAt h i .label)) (getD (p .states) i noRunning .v) (openCost (getD (p .states) i noRunning)) rest
 
   hour-written : (rest : List ℕ) → writtenText deck x ns cells rest ≡ hourText h p rest
   hour-written rest =
       ap (λ (w : List ℕ). printed (headerLine h) (rowsText deck x ns cells w))
-      (upTo-same (openAt deck (x .sources) cells (h .ndeliveries * (h .nsources * 4))) (λ i. printed (openLine h p i)) (h .nsources) open-written (printed end rest))
+      (upTo-same (openAt deck (x .sources) cells (h .ndeliveries * (h .nsources * pairWidth))) (λ i. printed (openLine h p i)) (h .nsources) open-written (printed end rest))
       ∙ ap (printed (headerLine h))
       (upTo-same (rowAt deck (x .sources) (h .nsources) (x .deliveries) ns cells) (pairsText h p) (h .ndeliveries)
-      (λ j l. upTo-same (pairAt deck (x .sources) cells (j * (h .nsources * 4)) (partAt deck (x .deliveries) j) (internalAt ns j)) (λ i. printed (pairLine h p j i)) (h .nsources) (λ i m. pair-written j i l m))
+      (λ j l. upTo-same (pairAt deck (x .sources) cells (j * (h .nsources * pairWidth)) (headAt deck (x .deliveries) ns j)) (λ i. printed (pairLine h p j i)) (h .nsources) (λ i m. pair-written j i l m))
       (opensText h p (printed end rest)))
 
   pub report-is : writtenText deck x ns cells [] ≡ report deck
   unfolding reports.report reports.reportLines
   report-is = hour-written [] ∙ hour-lines h p ∙ rw (a .read, a .run)
+
+  -- its length, part by part
+  pub report-length : length (printed (headerLine h) []) + length (rowsText deck x ns cells []) + length (leftText deck x cells []) + length (printed end []) ≡ length (report deck)
+  report-length =
+      let last = printed end [] in
+      let opens = leftText deck x cells last in
+      let rows = rowsText deck x ns cells opens in
+      omega (arith, ap length report-is, front-printed (headerLine h) .longer rows, front-rows deck x ns cells .longer opens, front-left deck x cells .longer last)

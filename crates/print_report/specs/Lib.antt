@@ -1,5 +1,7 @@
+pub mod Widths
 pub mod Rows
 pub mod HourReport
+pub mod LabelsShort
 pub mod HourRows
-pub mod ReportAtMost131072
+pub mod ReportFits
 pub mod Printing

@@ -1,13 +1,14 @@
 -- What a scan and a reconstruction tell of a deck's report, and what printing it comes to.
 use mathlib.Core.Path.{_≡_, refl, ap, sym, _∙_}
 use mathlib.Core.Bool.{true}
-use mathlib.Core.List.{List, [], _++_, append-nil}
+use mathlib.Core.List.{List, [], _++_}
 use Prim.Native.Nat.{ℕ, _≤_, _<_}
 use native.Mathlib.Omega.{arith}
 use lib.IntN.{ℤ}
+use lib.Dec.{ltb}
 use lib.ListN.{length, drop}
 use borrow.Author.Tests.{le-ltb, lt-ltb}
-use Rattle.rules.specs.Refusals.{Outcome, accepted, refused, andThen, numberOf, placeOf}
+use Rattle.rules.specs.Refusals.{Outcome, accepted, refused, refuse, andThen, numberOf, placeOf}
 use Rattle.rules.specs.Hour as hours
 use Rattle.rules.specs.Hour.{Progress, reconstructed, cellsOf, cellCount, answer}
 use Rattle.rules.specs.Reading.{reading}
@@ -22,12 +23,11 @@ use Rattle.rules.specs.declared.Refusal.{Refusal}
 use Rattle.rules.specs.Answers.{writtenOf}
 use Rattle.rules.specs.declared.Refusal.the-variants.{Short}
 use Rattle.rules.specs.declared.Verdict.the-variants.{Accepted, Refused}
+use Rattle.rules.specs.declared.Written.{Written}
 use Rattle.rules.specs.declared.Written.the-variants.{Count, Refused as NotWritten}
 use Rattle.deck.specs.Answers.{read-accepted, read-refused, Scanned}
 use Rattle.deck.specs.declared.ScannedDeck.{ScannedDeck}
 use Rattle.sequence.specs.Placings.{placings, placings-same}
-use Rattle.reconstruct.specs.WholeAnswer.{count-few}
-use Rattle.write_fields.specs.Inked.{Room, Inked, inked-first}
 use Rattle.print_lines.specs.Lines.{printed}
 use Rattle.print_report.specs.HourRows.{Answered}
 
@@ -40,7 +40,7 @@ module _ (deck : List ℕ) (x : ScannedDeck) (s : Scanned deck (reading deck) x)
   pub scanned-accepted : x .verdict ≡ Accepted → reading deck ≡ accepted (x .hour)
   scanned-accepted v = sym (read-accepted (reading deck) (record { verdict = x .verdict; hour = x .hour }) (s .answer) v)
 
--- What was reconstructed, of a valid hour into as many cells as any has.
+-- What was reconstructed, of a valid hour into memory for its cells.
 
 -- the run whose cells come first
 pub record Run (h : Hour) (cells : List ℤ) : Type 0 where
@@ -49,39 +49,56 @@ pub record Run (h : Hour) (cells : List ℤ) : Type 0 where
   pub after : List ℤ
   pub is : cells ≡ cellsOf h progress ++ after
 
-module _ (h : Hour) (v : valid h ≡ true) (out : List ℤ) (l : length out ≡ 4160) where
-  whole : reconstruction h (length out) ≡ answer h
-  unfolding calls.reconstruction
-  whole = rw (v, l, le-ltb 4160 (cellCount h) (count-few h v))
+-- the answer of a valid hour, where its cells fit
+pub filled : (h : Hour) (out : List ℤ) → valid h ≡ true → cellCount h ≤ length out → reconstruction h (length out) ≡ answer h
+unfolding calls.reconstruction
+filled h out v l = rw (v, le-ltb (length out) (cellCount h) l)
 
-  pub run-refused : (r : Refusal) → NotWritten r ≡ writtenOf (reconstruction h (length out)) → reconstructed h ≡ refused r
+module _ (h : Hour) where
+  pub run-refused : (r : Refusal) → NotWritten r ≡ writtenOf (answer h) → reconstructed h ≡ refused r
   unfolding hours.answer
-  run-refused r e = go (reconstructed h) (e ∙ ap writtenOf whole)
+  run-refused r e = go (reconstructed h) e
     where
       go : (o : Outcome Progress) → NotWritten r ≡ writtenOf (andThen o λ p. accepted (cellsOf h p)) → o ≡ refused r
       go (accepted p) e = let z : _≡_ {A = ℕ} 0 1 = cc in absurd (omega arith)
       go (refused q) e = let z : q ≡ r = cc in ap refused z
 
-  pub run-done : (k : ℕ) (left : List ℤ) → Count k ≡ writtenOf (reconstruction h (length out)) → left ≡ leaves (reconstruction h (length out)) out → Run h left
+  pub run-done : (k : ℕ) (out left : List ℤ) → Count k ≡ writtenOf (answer h) → left ≡ leaves (answer h) out → Run h left
   unfolding hours.answer
-  run-done k left e f = go (reconstructed h) refl (e ∙ ap writtenOf whole) (f ∙ ap (λ (o : Outcome (List ℤ)). leaves o out) whole)
+  run-done k out left e f = go (reconstructed h) refl e f
     where
       go : (o : Outcome Progress) → reconstructed h ≡ o → Count k ≡ writtenOf (andThen o λ p. accepted (cellsOf h p)) → left ≡ leaves (andThen o λ p. accepted (cellsOf h p)) out → Run h left
       go (accepted p) oe e f = record { progress = p; run = oe; after = drop (length (cellsOf h p)) out; is = f }
       go (refused q) oe e f = let z : _≡_ {A = ℕ} 0 1 = cc in absurd (omega arith)
 
-pub run-answered : (deck : List ℕ) (x : ScannedDeck) (ns : List InternalSequence) (cells : List ℤ) → Scanned deck (reading deck) x → x .verdict ≡ Accepted
-    → ns ≡ placings (x .hour .deliveries) (x .hour .ndeliveries) → Run (x .hour) cells → Answered deck x ns cells
-run-answered deck x ns cells s v n r =
+-- what an hour's reconstruction answered, and left in the cells that it was lent
+pub record Ended (h : Hour) (end : Written) (cells : List ℤ) : Type 0 where
+  pub before : List ℤ
+  pub outcome : end ≡ writtenOf (answer h)
+  pub left : cells ≡ leaves (answer h) before
+
+-- a deck that is accepted, and its hour's numbers
+pub record ReadDeck (deck : List ℕ) (x : ScannedDeck) (ns : List InternalSequence) : Type 0 where
+  pub read : reading deck ≡ accepted (x .hour)
+  pub scanned : Scanned deck (accepted (x .hour)) x
+  pub numbered : ns ≡ placings (x .hour .deliveries) (x .hour .ndeliveries)
+
+pub read-deck : (deck : List ℕ) (x : ScannedDeck) (ns : List InternalSequence) → Scanned deck (reading deck) x → x .verdict ≡ Accepted
+    → ns ≡ placings (x .hour .deliveries) (x .hour .ndeliveries) → ReadDeck deck x ns
+read-deck deck x ns s v n =
     let e = scanned-accepted deck x s v in
+    record { read = e; scanned = rw e at s; numbered = n }
+
+pub run-answered : (deck : List ℕ) (x : ScannedDeck) (ns : List InternalSequence) (cells : List ℤ) → ReadDeck deck x ns → Run (x .hour) cells → Answered deck x ns cells
+run-answered deck x ns cells d r =
     record {
-      read = e;
-      scanned = rw e at s;
+      read = d .read;
+      scanned = d .scanned;
       progress = r .progress;
       run = r .run;
       after = r .after;
       is = r .is;
-      numbered = λ j l. rw n (placings-same (x .hour) j);
+      numbered = λ j l. rw (d .numbered) (placings-same (x .hour) j);
     }
 
 -- The report of a refusal.
@@ -95,18 +112,40 @@ module _ (deck : List ℕ) (r : Refusal) where
   unfolding reports.report reports.reportLines reports.reportTexts
   unmet-report h e f = rw (e, f)
 
--- What the verdict and the lent buffer come to.
+-- What a text and the lent buffer come to.
 
-module _ (deck out : List ℕ) (n : ℕ) (e : n ≡ length (report deck)) where
-  pub printed-short : length out < n → (NotWritten Short ≡ writtenOf (reporting deck (length out))) × (out ≡ leaves (reporting deck (length out)) out)
-  unfolding calls.reporting
-  printed-short lt = let f = lt-ltb (length out) (length (report deck)) (omega arith) in (rw f, rw f)
+-- a text handed over into a buffer of so many bytes
+unfoldable pub handed : List ℕ → ℕ → Outcome (List ℕ)
+handed w size =
+    refuse (ltb size (length w)) Short
+    (accepted w)
 
-  pub printed-fits : (w after : List ℕ) (next : ℕ) → n ≤ length out → w ≡ report deck → Inked out 0 after next (λ rest. w ++ rest)
-      → (Count n ≡ writtenOf (reporting deck (length out))) × (after ≡ leaves (reporting deck (length out)) out)
-  unfolding calls.reporting
-  printed-fits w after next le d i =
-      let f = le-ltb (length out) (length (report deck)) (omega arith) in
-      let whole : w ++ [] ≡ report deck = append-nil w ∙ d in
-      let room : Room out 0 (w ++ []) = record { fits = omega (arith, ap length whole) } in
-      (rw (f, e), rw f (inked-first i room ∙ ap (λ (w : List ℕ). w ++ drop (length w) out) whole))
+pub handed-report : (deck w : List ℕ) (size : ℕ) → w ≡ report deck → handed w size ≡ reporting deck size
+unfolding handed calls.reporting
+handed-report deck w size e = rw e
+
+module _ (w out : List ℕ) where
+  pub handed-short : length out < length w → (NotWritten Short ≡ writtenOf (handed w (length out))) × (out ≡ leaves (handed w (length out)) out)
+  unfolding handed
+  handed-short l = let f = lt-ltb (length out) (length w) l in (rw f, rw f)
+
+  pub handed-whole : (n : ℕ) (after : List ℕ) → length w ≤ length out → n ≡ length w → after ≡ w ++ drop (length w) out
+      → (Count n ≡ writtenOf (handed w (length out))) × (after ≡ leaves (handed w (length out)) out)
+  unfolding handed
+  handed-whole n after l e d = let f = le-ltb (length out) (length w) l in (rw (f, e), rw f d)
+
+-- the same of a deck's report
+module _ (deck out w : List ℕ) (e : w ≡ report deck) where
+  pub told-as : {r : Written} {after : List ℕ} → (r ≡ writtenOf (handed w (length out))) × (after ≡ leaves (handed w (length out)) out)
+      → (r ≡ writtenOf (reporting deck (length out))) × (after ≡ leaves (reporting deck (length out)) out)
+  told-as t =
+      let same = handed-report deck w (length out) e in
+      (t .0 ∙ ap writtenOf same, t .1 ∙ ap (λ (o : Outcome (List ℕ)). leaves o out) same)
+
+pub report-short : (deck out : List ℕ) (n : ℕ) → n ≡ length (report deck) → length out < n
+    → (NotWritten Short ≡ writtenOf (reporting deck (length out))) × (out ≡ leaves (reporting deck (length out)) out)
+report-short deck out n e l = told-as deck out (report deck) refl (handed-short (report deck) out (omega arith))
+
+pub report-whole : (deck out after : List ℕ) (n : ℕ) → length (report deck) ≤ length out → n ≡ length (report deck) → after ≡ report deck ++ drop (length (report deck)) out
+    → (Count n ≡ writtenOf (reporting deck (length out))) × (after ≡ leaves (reporting deck (length out)) out)
+report-whole deck out after n l e d = told-as deck out (report deck) refl (handed-whole (report deck) out n after l e d)

@@ -1,21 +1,67 @@
-// The report of a deck as text, line by line into a buffer of the writer's own, and over to a lent one where it fits.
-// Contracts cite Room and Inked of ink, the rows of specs/Rows, and report, reporting and leaves of rules.
+// The report of a deck as text, line by line straight into a lent buffer: its length is found first where the buffer may be too short for it.
+// Contracts cite Room and Inked of write_fields, the rows of specs/Rows, and report, reporting and leaves of rules.
 ghost use mathlib.Core.Path.{_≡_};
+ghost use mathlib.Core.Bool.{true};
 ghost use mathlib.Core.List.{[], _++_};
-ghost use Prim.Native.Nat.{_+_, _*_, _≤_};
+ghost use Prim.Native.Nat.{_+_, _*_, _^_, _≤_, _<_};
 ghost use lib.ListN.{length, drop};
 ghost use Rattle.rules.specs.Answers.{writtenOf};
-ghost use Rattle.rules.specs.Report.{report};
+ghost use Rattle.rules.specs.Refusals.{numberOf, placeOf};
+ghost use Rattle.rules.specs.Hour.{cellCount, answer};
+ghost use Rattle.rules.specs.Report.{refusal, report};
+ghost use Rattle.rules.specs.Writing.{valid};
 ghost use Rattle.rules.specs.Calls.{reporting, leaves};
+ghost use Rattle.sequence.specs.Placings.{placings};
 ghost use Rattle.write_fields.specs.Inked.{Room, Inked, upTo};
-ghost use Rattle.print_report.specs.Rows.{Held, SmallFirst, rowText, rowAt, openAt};
+ghost use Rattle.print_lines.specs.Lines.{printed};
+ghost use Rattle.print_report.specs.Widths.{pairWidth, openWidth};
+ghost use Rattle.print_report.specs.Rows.{Held, ShortLabels, SmallFirst, Summed, rowText, rowAt, openAt};
 ghost use Rattle.print_report.specs.HourRows.{Answered};
+ghost use Rattle.print_report.specs.Printing.{ReadDeck, Ended, handed};
 use deck::Place;
 use deck::ScannedDeck;
+use rules::Hour;
 use rules::InternalSequence;
 use rules::Refusal;
 use rules::Verdict;
 use rules::Written;
+
+// A pair's cells and an open line's.
+const PAIR_CELLS: usize = 4;
+
+const OPEN_CELLS: usize = 2;
+
+// As many cells as an hour has at most, and as many as a small one may have.
+const MOST_CELLS: usize = 4160;
+
+const FEW_CELLS: usize = 512;
+
+// Room for what all lines of a delivery begin with.
+const MOST_HEAD: usize = 64;
+
+// No report is longer.
+const MOST_REPORT: usize = 131072;
+
+// What a pair's line tells of its four cells.
+pub struct Amounts {
+    pub direct: i64,
+    pub incremental: i64,
+    pub cost: i64,
+}
+
+fn amounts_at(cells: &[i64], k: usize) -> Amounts
+    requires { ⌜ SmallFirst (now cells) (k + pairWidth) ⌝ }
+    ensures { λ r. ⌜ Summed (now (cells .entry)) k r ⌝ }
+{
+    let direct = cells[k];
+    let incremental = cells[k + 1];
+    let cost = print_lines::both_costs(cells[k + 2], cells[k + 3]);
+    Amounts {
+        direct: direct,
+        incremental: incremental,
+        cost: cost,
+    }
+}
 
 // A delivery with each source: the sources' labels at their places in the deck, the pairs' cells from a place on.
 fn put_row(
@@ -26,22 +72,18 @@ fn put_row(
     n: usize,
     cells: &[i64],
     base: usize,
-    delivery: &[u8],
-    number: InternalSequence,
+    head: &[u8],
 ) -> usize
-    requires { ⌜ (n ≤ 32) × Held (now deck) sources × SmallFirst (now cells) (base + n * 4) × Room (now buf) at (rowText (now deck) sources n (now cells) base (now delivery) number []) ⌝ }
-    ensures { λ r. ⌜ Inked (now (buf .entry)) at (now (buf .exit)) r (rowText (now (deck .entry)) sources n (now (cells .entry)) base (now (delivery .entry)) number) ⌝ }
+    requires { ⌜ (n ≤ 32) × Held (now deck) sources × SmallFirst (now cells) (base + n * pairWidth) × Room (now buf) at (rowText (now deck) sources n (now cells) base (now head) []) ⌝ }
+    ensures { λ r. ⌜ Inked (now (buf .entry)) at (now (buf .exit)) r (rowText (now (deck .entry)) sources n (now (cells .entry)) base (now (head .entry))) ⌝ }
 {
     let mut p = at;
     let mut i: usize = 0;
     while i < n {
         let place = sources[i];
         let source = deck::part_at(deck, place);
-        let k = base + i * 4;
-        let direct = cells[k];
-        let incremental = cells[k + 1];
-        let cost = print_lines::both_costs(cells[k + 2], cells[k + 3]);
-        p = print_lines::put_pair(buf, p, delivery, number, source, direct, incremental, cost);
+        let x = amounts_at(cells, base + i * PAIR_CELLS);
+        p = print_lines::put_pair(buf, p, head, source, x.direct, x.incremental, x.cost);
         i += 1;
     }
     p
@@ -59,7 +101,7 @@ fn put_rows(
     numbers: [InternalSequence; 32],
     cells: &[i64],
 ) -> usize
-    requires { ⌜ (n ≤ 32) × (m ≤ 32) × Held (now deck) sources × Held (now deck) deliveries × SmallFirst (now cells) (m * (n * 4)) × Room (now buf) at (upTo (rowAt (now deck) sources n deliveries numbers (now cells)) m []) ⌝ }
+    requires { ⌜ (n ≤ 32) × (m ≤ 32) × Held (now deck) sources × Held (now deck) deliveries × ShortLabels (now deck) deliveries m × SmallFirst (now cells) (m * (n * pairWidth)) × Room (now buf) at (upTo (rowAt (now deck) sources n deliveries numbers (now cells)) m []) ⌝ }
     ensures { λ r. ⌜ Inked (now (buf .entry)) at (now (buf .exit)) r (upTo (rowAt (now (deck .entry)) sources n deliveries numbers (now (cells .entry))) m) ⌝ }
 {
     let mut p = at;
@@ -68,7 +110,18 @@ fn put_rows(
         let place = deliveries[j];
         let delivery = deck::part_at(deck, place);
         let x = numbers[j];
-        p = put_row(buf, p, deck, sources, n, cells, j * (n * 4), delivery, x);
+        let mut head = [0u8; MOST_HEAD];
+        let k = print_lines::put_head(&mut head, 0, delivery, x);
+        p = put_row(
+            buf,
+            p,
+            deck,
+            sources,
+            n,
+            cells,
+            j * (n * PAIR_CELLS),
+            &head[0..k],
+        );
         j += 1;
     }
     p
@@ -84,7 +137,7 @@ fn put_opens(
     cells: &[i64],
     base: usize,
 ) -> usize
-    requires { ⌜ (n ≤ 32) × Held (now deck) sources × (base + n * 2 ≤ length (now cells)) × Room (now buf) at (upTo (openAt (now deck) sources (now cells) base) n []) ⌝ }
+    requires { ⌜ (n ≤ 32) × Held (now deck) sources × (base + n * openWidth ≤ length (now cells)) × Room (now buf) at (upTo (openAt (now deck) sources (now cells) base) n []) ⌝ }
     ensures { λ r. ⌜ Inked (now (buf .entry)) at (now (buf .exit)) r (upTo (openAt (now (deck .entry)) sources (now (cells .entry)) base) n) ⌝ }
 {
     let mut p = at;
@@ -92,7 +145,7 @@ fn put_opens(
     while i < n {
         let place = sources[i];
         let source = deck::part_at(deck, place);
-        let k = base + i * 2;
+        let k = base + i * OPEN_CELLS;
         let mwh = cells[k];
         let cost = cells[k + 1];
         p = print_lines::put_open(buf, p, source, mwh, cost);
@@ -102,7 +155,7 @@ fn put_opens(
 }
 
 // The report of a deck whose hour was reconstructed, from the buffer's start on; gives its length.
-pub fn put_hour(
+fn put_hour(
     buf: &mut [u8],
     deck: &[u8],
     x: ScannedDeck,
@@ -122,30 +175,154 @@ pub fn put_hour(
     let delivered = line_rules::sum_delivered(h);
     let p = print_lines::put_header(buf, 0, generation, h.losses as u64, delivered);
     let q = put_rows(buf, p, deck, sources, n, deliveries, m, numbers, cells);
-    let r = put_opens(buf, q, deck, sources, n, cells, m * (n * 4));
+    let r = put_opens(buf, q, deck, sources, n, cells, m * (n * PAIR_CELLS));
     print_lines::put_end(buf, r)
 }
 
-// The report of a deck, from the buffer's start on; gives its length.
-fn put_report(buf: &mut [u8], deck: &[u8]) -> usize
-    requires { ⌜ length (report (now deck)) ≤ length (now buf) ⌝ }
-    ensures size { λ r. ⌜ r ≡ length (report (now (deck .entry))) ⌝ }
-    ensures bytes { λ r. ⌜ now (buf .exit) ≡ report (now (deck .entry)) ++ drop (length (report (now (deck .entry)))) (now (buf .entry)) ⌝ }
+// Lengths: of each text above, as many bytes as it has.
+
+fn row_length(
+    deck: &[u8],
+    sources: [Place; 32],
+    n: usize,
+    cells: &[i64],
+    base: usize,
+    head: &[u8],
+) -> usize
+    requires { ⌜ (n ≤ 32) × Held (now deck) sources × SmallFirst (now cells) (base + n * pairWidth) × (length (rowText (now deck) sources n (now cells) base (now head) []) < 2 ^ 64) ⌝ }
+    ensures { λ r. ⌜ r ≡ length (rowText (now (deck .entry)) sources n (now (cells .entry)) base (now (head .entry)) []) ⌝ }
 {
-    let x = deck::scan(deck);
-    let verdict = x.verdict;
-    if let Verdict::Refused(r) = verdict {
-        return print_lines::put_refusal(buf, 0, r);
+    let mut size: usize = 0;
+    let mut i: usize = 0;
+    while i < n {
+        let place = sources[i];
+        let source = deck::part_at(deck, place);
+        let x = amounts_at(cells, base + i * PAIR_CELLS);
+        size += print_lines::pair_length(head, source, x.direct, x.incremental, x.cost);
+        i += 1;
     }
+    size
+}
+
+fn rows_length(
+    deck: &[u8],
+    sources: [Place; 32],
+    n: usize,
+    deliveries: [Place; 32],
+    m: usize,
+    numbers: [InternalSequence; 32],
+    cells: &[i64],
+) -> usize
+    requires { ⌜ (n ≤ 32) × (m ≤ 32) × Held (now deck) sources × Held (now deck) deliveries × ShortLabels (now deck) deliveries m × SmallFirst (now cells) (m * (n * pairWidth)) × (length (upTo (rowAt (now deck) sources n deliveries numbers (now cells)) m []) < 2 ^ 64) ⌝ }
+    ensures { λ r. ⌜ r ≡ length (upTo (rowAt (now (deck .entry)) sources n deliveries numbers (now (cells .entry))) m []) ⌝ }
+{
+    let mut size: usize = 0;
+    let mut j: usize = 0;
+    while j < m {
+        let place = deliveries[j];
+        let delivery = deck::part_at(deck, place);
+        let x = numbers[j];
+        let mut head = [0u8; MOST_HEAD];
+        let k = print_lines::put_head(&mut head, 0, delivery, x);
+        size += row_length(deck, sources, n, cells, j * (n * PAIR_CELLS), &head[0..k]);
+        j += 1;
+    }
+    size
+}
+
+fn opens_length(deck: &[u8], sources: [Place; 32], n: usize, cells: &[i64], base: usize) -> usize
+    requires { ⌜ (n ≤ 32) × Held (now deck) sources × (base + n * openWidth ≤ length (now cells)) × (length (upTo (openAt (now deck) sources (now cells) base) n []) < 2 ^ 64) ⌝ }
+    ensures { λ r. ⌜ r ≡ length (upTo (openAt (now (deck .entry)) sources (now (cells .entry)) base) n []) ⌝ }
+{
+    let mut size: usize = 0;
+    let mut i: usize = 0;
+    while i < n {
+        let place = sources[i];
+        let source = deck::part_at(deck, place);
+        let k = base + i * OPEN_CELLS;
+        let mwh = cells[k];
+        let cost = cells[k + 1];
+        size += print_lines::open_length(source, mwh, cost);
+        i += 1;
+    }
+    size
+}
+
+fn hour_length(deck: &[u8], x: ScannedDeck, numbers: [InternalSequence; 32], cells: &[i64]) -> usize
+    requires { ⌜ Answered (now deck) x numbers (now cells) ⌝ }
+    ensures { λ r. ⌜ r ≡ length (report (now (deck .entry))) ⌝ }
+{
     let h = x.hour;
-    let mut cells = [0i64; 4160];
-    let end = reconstruct::price(h, &mut cells);
-    if let Written::Refused(r) = end {
-        return print_lines::put_refusal(buf, 0, r);
+    let sources = x.sources;
+    let deliveries = x.deliveries;
+    let n = h.nsources;
+    let m = h.ndeliveries;
+    let generation = line_rules::sum_generated(h);
+    let delivered = line_rules::sum_delivered(h);
+    let header = print_lines::header_length(generation, h.losses as u64, delivered);
+    let rows = rows_length(deck, sources, n, deliveries, m, numbers, cells);
+    let opens = opens_length(deck, sources, n, cells, m * (n * PAIR_CELLS));
+    header + rows + opens + print_lines::end_length()
+}
+
+// A refusal's line into a lent buffer: nothing changed where that is too short.
+fn hand_refusal(out: &mut [u8], x: Refusal) -> Written
+    ensures outcome { λ r. ⌜ r ≡ writtenOf (handed (printed (refusal (numberOf x) (placeOf x)) []) (length (now (out .entry)))) ⌝ }
+    ensures bytes { λ _. ⌜ now (out .exit) ≡ leaves (handed (printed (refusal (numberOf x) (placeOf x)) []) (length (now (out .entry)))) (now (out .entry)) ⌝ }
+{
+    if out.len() < print_lines::refusal_length(x) {
+        return Written::Refused(Refusal::Short);
     }
-    let deliveries = h.deliveries;
-    let numbers = sequence::numbers(deliveries, h.ndeliveries);
-    put_hour(buf, deck, x, numbers, &cells)
+    Written::Count(print_lines::put_refusal(out, 0, x))
+}
+
+// An hour's report into a lent buffer that may be too short for it.
+fn hand_hour(
+    out: &mut [u8],
+    deck: &[u8],
+    x: ScannedDeck,
+    numbers: [InternalSequence; 32],
+    cells: &[i64],
+) -> Written
+    requires { ⌜ Answered (now deck) x numbers (now cells) ⌝ }
+    ensures outcome { λ r. ⌜ r ≡ writtenOf (reporting (now (deck .entry)) (length (now (out .entry)))) ⌝ }
+    ensures bytes { λ _. ⌜ now (out .exit) ≡ leaves (reporting (now (deck .entry)) (length (now (out .entry)))) (now (out .entry)) ⌝ }
+{
+    if out.len() < hour_length(deck, x, numbers, cells) {
+        return Written::Refused(Refusal::Short);
+    }
+    Written::Count(put_hour(out, deck, x, numbers, cells))
+}
+
+// The cells of a valid hour, whose deliveries have these numbers.
+fn fill_cells(h: Hour, numbers: [InternalSequence; 32], cells: &mut [i64]) -> Written
+    requires { ⌜ (valid h ≡ true) × (numbers ≡ placings (h .deliveries) (h .ndeliveries)) × (cellCount h ≤ length (now cells)) ⌝ }
+    ensures outcome { λ r. ⌜ r ≡ writtenOf (answer h) ⌝ }
+    ensures cells { λ _. ⌜ now (cells .exit) ≡ leaves (answer h) (now (cells .entry)) ⌝ }
+{
+    reconstruct::price(h, cells)
+}
+
+// The report of a deck that was read, of what its reconstruction answered and left in the cells.
+fn print_answer(
+    out: &mut [u8],
+    deck: &[u8],
+    x: ScannedDeck,
+    numbers: [InternalSequence; 32],
+    end: Written,
+    cells: &[i64],
+) -> Written
+    requires { ⌜ ReadDeck (now deck) x numbers × Ended (x .hour) end (now cells) ⌝ }
+    ensures outcome { λ r. ⌜ r ≡ writtenOf (reporting (now (deck .entry)) (length (now (out .entry)))) ⌝ }
+    ensures bytes { λ _. ⌜ now (out .exit) ≡ leaves (reporting (now (deck .entry)) (length (now (out .entry)))) (now (out .entry)) ⌝ }
+{
+    if let Written::Refused(r) = end {
+        return hand_refusal(out, r);
+    }
+    if out.len() < MOST_REPORT {
+        return hand_hour(out, deck, x, numbers, cells);
+    }
+    Written::Count(put_hour(out, deck, x, numbers, cells))
 }
 
 // The report of a deck into a lent buffer: nothing changed where that is too short.
@@ -153,11 +330,21 @@ pub fn report(deck: &[u8], out: &mut [u8]) -> Written
     ensures outcome { λ r. ⌜ r ≡ writtenOf (reporting (now (deck .entry)) (length (now (out .entry)))) ⌝ }
     ensures bytes { λ _. ⌜ now (out .exit) ≡ leaves (reporting (now (deck .entry)) (length (now (out .entry)))) (now (out .entry)) ⌝ }
 {
-    let mut text = [0u8; 131072];
-    let n = put_report(&mut text, deck);
-    if out.len() < n {
-        return Written::Refused(Refusal::Short);
+    let x = deck::scan(deck);
+    let verdict = x.verdict;
+    if let Verdict::Refused(r) = verdict {
+        return hand_refusal(out, r);
     }
-    write_fields::put_bytes(out, 0, &text[0..n]);
-    Written::Count(n)
+    let h = x.hour;
+    let deliveries = h.deliveries;
+    let numbers = sequence::numbers(deliveries, h.ndeliveries);
+    let count = h.ndeliveries * (h.nsources * PAIR_CELLS) + h.nsources * OPEN_CELLS;
+    if count <= FEW_CELLS {
+        let mut cells = [0i64; FEW_CELLS];
+        let end = fill_cells(h, numbers, &mut cells);
+        return print_answer(out, deck, x, numbers, end, &cells);
+    }
+    let mut cells = [0i64; MOST_CELLS];
+    let end = fill_cells(h, numbers, &mut cells);
+    print_answer(out, deck, x, numbers, end, &cells)
 }

@@ -41,6 +41,9 @@ inked-first {a} {b} {p} {f} e r =
 pub inked-byte : (a : List ℕ) (at b : ℕ) → Inked a at (set a at b) (at + 1) (λ rest. b ∷ rest)
 inked-byte a at b = record { kept = length-set a at b; place = λ rest. omega arith; bytes = λ rest. rw add-one }
 
+pub inked-nothing : (a : List ℕ) (at : ℕ) → Inked a at a at (λ rest. rest)
+inked-nothing a at = record { kept = refl; place = λ rest. refl; bytes = λ rest. refl }
+
 -- one text, then another
 pub inked-then : {a : List ℕ} {at : ℕ} {b : List ℕ} {p : ℕ} {c : List ℕ} {q : ℕ} {f g : Text} → Inked a at b p f → Inked b p c q g → Inked a at c q (λ rest. f (g rest))
 inked-then {g} x y =
@@ -79,6 +82,9 @@ front-then {f} {g} x y = record { longer = λ rest. omega (arith, x .longer (g r
 pub front-byte : (b : ℕ) → Front (λ rest. b ∷ rest)
 front-byte b = record { longer = λ rest. omega arith }
 
+pub front-two : (a b : ℕ) → Front (λ rest. a ∷ b ∷ rest)
+front-two a b = record { longer = λ rest. omega arith }
+
 pub front-list : (w : List ℕ) → Front (λ rest. w ++ rest)
 front-list w = record { longer = λ rest. omega (arith, length-append w rest, length-append w []) }
 
@@ -102,7 +108,7 @@ upTo-first f (suc n) rest = upTo-first f n (f (suc n) rest)
 module _ (f : ℕ → Text) where
   pub inked-none : (a : List ℕ) (at : ℕ) → Inked a at a at (upTo f 0)
   unfolding upTo
-  inked-none a at = record { kept = refl; place = λ rest. refl; bytes = λ rest. refl }
+  inked-none a at = inked-nothing a at
 
   pub inked-more : {a : List ℕ} {at : ℕ} {b : List ℕ} {p : ℕ} {c : List ℕ} {q : ℕ} (i : ℕ) → Inked a at b p (upTo f i) → Inked b p c q (f i) → Inked a at c q (upTo f (i + 1))
   inked-more i x y = inked-as (upTo-more f i) (inked-then x y)

@@ -1,2 +1,3 @@
 pub mod Inked
 pub mod Texts
+pub mod Lengths

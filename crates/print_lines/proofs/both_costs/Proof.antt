@@ -1,4 +1,4 @@
--- `sheet::both_costs` meets its contract: the sum of two cells fits.
+-- `print_lines::both_costs` meets its contract: the sum of two cells fits.
 use Rattle.print_lines.specs.Amounts.{held-fits, held-sum}
 use Rattle.print_lines.proofs.both_costs.Statement.{statement}
 use Rattle.print_lines.proofs.both_costs.Tie as tie

@@ -1,4 +1,4 @@
--- `sheet::put_end` meets its contract: the bytes are the line and its LF.
+-- `print_lines::put_end` meets its contract: the bytes are the line and its LF.
 use borrow.Author.Needs.{needs}
 use mathlib.Core.List.{[]}
 use Rattle.write_fields.specs.Inked.{inked-as, room-as}

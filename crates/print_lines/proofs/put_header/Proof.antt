@@ -1,4 +1,4 @@
--- `sheet::put_header` meets its contract. The word, the four numbers and LF.
+-- `print_lines::put_header` meets its contract. The word, the four numbers and LF.
 use borrow.Author.Needs.{needs}
 use mathlib.Core.List.{[]}
 use Prim.Native.Nat.{_+_, _-_}

@@ -1,4 +1,4 @@
--- `sheet::put_open` meets its contract. The word, the label, the two numbers and LF.
+-- `print_lines::put_open` meets its contract. The word, the label, the two numbers and LF.
 use borrow.Author.Needs.{needs}
 use mathlib.Core.List.{[]}
 use Rattle.rules.specs.Words.{text}

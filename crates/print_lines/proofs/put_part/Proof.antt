@@ -1,4 +1,4 @@
--- `sheet::put_part` meets its contract. A quote, the bytes, a quote.
+-- `print_lines::put_part` meets its contract. A quote, the bytes, a quote.
 use borrow.Author.Needs.{needs}
 use mathlib.Core.Path.{sym}
 use mathlib.Core.List.{append-nil}

@@ -1,4 +1,4 @@
--- `sheet::put_refusal` meets its contract. The word, the number, the place and LF.
+-- `print_lines::put_refusal` meets its contract. The word, the number, the place and LF.
 use borrow.Author.Needs.{needs}
 use mathlib.Core.List.{[]}
 use Rattle.rules.specs.Words.{text}

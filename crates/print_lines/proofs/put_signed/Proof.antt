@@ -1,4 +1,4 @@
--- `sheet::put_signed` meets its contract. A minus where the number is below 0, and the digits of its size.
+-- `print_lines::put_signed` meets its contract. A minus where the number is below 0, and the digits of its size.
 use borrow.Author.Needs.{needs}
 use mathlib.Core.Path.{refl}
 use mathlib.Core.List.{[], _∷_}

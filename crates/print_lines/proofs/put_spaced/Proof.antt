@@ -1,4 +1,4 @@
--- `sheet::put_spaced` meets its contract. A space, then the number.
+-- `print_lines::put_spaced` meets its contract. A space, then the number.
 use borrow.Author.Needs.{needs}
 use Rattle.write_fields.specs.Inked.{inked-then, room-first, room-after, front-byte}
 use Rattle.print_lines.proofs.put_spaced.Statement.{statement}

@@ -1,4 +1,4 @@
--- `sheet::size_of` meets its contract; a number below 0 is turned by way of the one above it.
+-- `print_lines::size_of` meets its contract; a number below 0 is turned by way of the one above it.
 use mathlib.Core.Path.{ap}
 use lib.IntN.{natAbs}
 use mir.Facts.{toZ-ofZ}

@@ -1,25 +1,19 @@
--- `printout::put_hour` meets its contract. The header, the rows, the open lines and the end, one after another.
+-- `print_report::put_hour` meets its contract. The header, the rows, the open lines and the end, one after another.
 use borrow.Author.Needs.{needs}
 use mathlib.Core.List.{[]}
 use native.Mathlib.Omega.{arith}
 use Rattle.rules.specs.Report.{headerLine, report}
-use Rattle.write_fields.specs.Inked.{Room, Inked, inked-as, inked-then, room-as, room-first, room-after}
-use Rattle.print_lines.specs.Lines.{printed, front-printed}
-use Rattle.print_report.specs.HourRows.{given, enough, small, base-fits, sources-held, deliveries-held, front-rows, front-left, header-same, writtenText, report-is, whole-room, whole-written}
+use Rattle.write_fields.specs.Inked.{Room, inked-as, inked-then, room-as, room-first, room-after}
+use Rattle.print_lines.specs.Lines.{front-printed}
+use Rattle.print_report.specs.HourRows.{given, enough, small, base-fits, sources-held, deliveries-held, deliveries-short, front-rows, front-left, header-same, writtenText, report-is, whole-room, whole-written}
 use Rattle.print_report.proofs.put_hour.Statement.{statement}
 use Rattle.print_report.proofs.put_hour.Tie as tie
 
--- the report's room, and the header as it stands
+-- the report's room
 room : (s : tie.Start) → Room (s .args .buf .now) 0 (writtenText (s .args .deck .now) (s .args .x) (s .args .numbers) (s .args .cells .now) [])
 room s =
     let a = s .args in
     whole-room (writtenText (a .deck .now) (a .x) (a .numbers) (a .cells .now)) (report (a .deck .now)) (a .buf .now) (report-is (s .pre .0)) (s .pre .1)
-
-headed : (c : tie.After-put-header) → Inked (c .before .before .before .before .before .before .before .before .before .before .args .buf .now) 0 (c .put-header .last .0) (c .put-header .result) (printed (headerLine (c .before .before .before .before .before .before .before .before .before .before .args .x .hour)))
-headed c =
-    inked-as
-    (header-same (c .before .before .before .before .before .before .before .before .before .before .args .x .hour) (c .before .before .before .before .sum-generated .result) (c .before .before .before .sum-delivered .result) (c .before .before .before .before .sum-generated .ensures .0) (c .before .before .before .sum-delivered .ensures .0))
-    (c .put-header .ensures)
 
 sum-generated-requires : tie.Need-sum-generated-requires
 sum-generated-requires c κs =
@@ -36,27 +30,31 @@ cast-put-header c = search needs
 
 put-header-requires : tie.Need-put-header-requires
 put-header-requires c κs =
-    let s = c .before .before .before .before .before .before .before .before .before in
-    let a = s .args in
-    let generated = c .before .before .before .sum-generated in
-    let delivered = c .before .before .sum-delivered in (
-      omega (arith, given (s .pre .0) .drawn, generated .ensures .0, delivered .ensures .0),
-      room-as (header-same (a .x .hour) (generated .result) (delivered .result) (generated .ensures .0) (delivered .ensures .0) [])
+    let sum-delivered = c .before .before in
+    let sum-generated = sum-delivered .before in
+    let s = sum-generated .before .before .before .before .before .before in
+    let a = s .args in (
+      omega (arith, given (s .pre .0) .drawn, sum-generated .sum-generated .ensures .0, sum-delivered .sum-delivered .ensures .0),
+      room-as (header-same (a .x .hour) (sum-generated .sum-generated .result) (sum-delivered .sum-delivered .result) (sum-generated .sum-generated .ensures .0) (sum-delivered .sum-delivered .ensures .0) [])
           (room-first (front-printed (headerLine (a .x .hour))) (room s)),
     )
 
 put-rows-requires : tie.Need-put-rows-requires
 put-rows-requires c κs =
-    let header = c .before .before .before in
-    let s = header .before .before .before .before .before .before .before .before .before .before in
+    let put-header = c .before .before .before in
+    let sum-delivered = put-header .before .before .before in
+    let sum-generated = sum-delivered .before in
+    let s = sum-generated .before .before .before .before .before .before in
     let a = s .args in
+    let headed = inked-as (header-same (s .args .x .hour) (sum-generated .sum-generated .result) (sum-delivered .sum-delivered .result) (sum-generated .sum-generated .ensures .0) (sum-delivered .sum-delivered .ensures .0)) (put-header .put-header .ensures) in
     let g = given (s .pre .0) in (
       g .sources .few,
       g .deliveries .few,
       sources-held (s .pre .0),
       deliveries-held (s .pre .0),
+      deliveries-short (s .pre .0),
       small (s .pre .0),
-      room-first (front-rows (a .deck .now) (a .x) (a .numbers) (a .cells .now)) (room-after (headed header) (room s)),
+      room-first (front-rows (a .deck .now) (a .x) (a .numbers) (a .cells .now)) (room-after headed (room s)),
     )
 
 mul-put-opens : tie.Need-mul-put-opens
@@ -71,37 +69,42 @@ mul-put-opens-2 c =
 
 put-opens-requires : tie.Need-put-opens-requires
 put-opens-requires c κs =
-    let rows = c .before .before .before in
-    let header = rows .before .before .before .before in
-    let s = header .before .before .before .before .before .before .before .before .before .before in
-    let a = s .args in (
-      given (s .pre .0) .sources .few,
-      sources-held (s .pre .0),
-      enough (s .pre .0),
-      room-first (front-left (a .deck .now) (a .x) (a .cells .now)) (room-after (rows .put-rows .ensures) (room-after (headed header) (room s))),
-    )
+    let put-rows = c .before .before .before in
+    let put-header = put-rows .before .before .before .before in
+    let sum-delivered = put-header .before .before .before in
+    let sum-generated = sum-delivered .before in
+    let s = sum-generated .before .before .before .before .before .before in
+    let a = s .args in
+    let headed = inked-as (header-same (s .args .x .hour) (sum-generated .sum-generated .result) (sum-delivered .sum-delivered .result) (sum-generated .sum-generated .ensures .0) (sum-delivered .sum-delivered .ensures .0)) (put-header .put-header .ensures) in
+    (given (s .pre .0) .sources .few, sources-held (s .pre .0), enough (s .pre .0), room-first (front-left (a .deck .now) (a .x) (a .cells .now)) (room-after (put-rows .put-rows .ensures) (room-after headed (room s))))
 
 put-end-requires : tie.Need-put-end-requires
 put-end-requires c κs =
-    let opens = c .before .before .before in
-    let rows = opens .before .before .before .before in
-    let header = rows .before .before .before .before in
-    let s = header .before .before .before .before .before .before .before .before .before .before in
-    room-after (opens .put-opens .ensures) (room-after (rows .put-rows .ensures) (room-after (headed header) (room s)))
+    let put-opens = c .before .before .before in
+    let put-rows = put-opens .before .before .before .before in
+    let put-header = put-rows .before .before .before .before in
+    let sum-delivered = put-header .before .before .before in
+    let sum-generated = sum-delivered .before in
+    let s = sum-generated .before .before .before .before .before .before in
+    let headed = inked-as (header-same (s .args .x .hour) (sum-generated .sum-generated .result) (sum-delivered .sum-delivered .result) (sum-generated .sum-generated .ensures .0) (sum-delivered .sum-delivered .ensures .0)) (put-header .put-header .ensures) in
+    room-after (put-opens .put-opens .ensures) (room-after (put-rows .put-rows .ensures) (room-after headed (room s)))
 
 same-length : tie.Need-same-length
 same-length c = search needs
 
 returns : tie.Need-returns
 returns c =
-    let end = c .before .before in
-    let opens = end .before .before .before .before in
-    let rows = opens .before .before .before .before in
-    let header = rows .before .before .before .before in
-    let s = header .before .before .before .before .before .before .before .before .before .before in
+    let put-end = c .before .before in
+    let put-opens = put-end .before .before .before .before in
+    let put-rows = put-opens .before .before .before .before in
+    let put-header = put-rows .before .before .before .before in
+    let sum-delivered = put-header .before .before .before in
+    let sum-generated = sum-delivered .before in
+    let s = sum-generated .before .before .before .before .before .before in
     let a = s .args in
+    let headed = inked-as (header-same (s .args .x .hour) (sum-generated .sum-generated .result) (sum-delivered .sum-delivered .result) (sum-generated .sum-generated .ensures .0) (sum-delivered .sum-delivered .ensures .0)) (put-header .put-header .ensures) in
     whole-written (writtenText (a .deck .now) (a .x) (a .numbers) (a .cells .now)) (report (a .deck .now)) (a .buf .now) (report-is (s .pre .0)) (s .pre .1) _ _
-    (inked-then (headed header) (inked-then (rows .put-rows .ensures) (inked-then (opens .put-opens .ensures) (end .put-end .ensures))))
+    (inked-then headed (inked-then (put-rows .put-rows .ensures) (inked-then (put-opens .put-opens .ensures) (put-end .put-end .ensures))))
 
 pub put-hour-spec : {M : Type 1} → statement M
 put-hour-spec =

@@ -1,4 +1,4 @@
--- `printout::put_opens` meets its contract. The loop's invariant: the first i lines stand.
+-- `print_report::put_opens` meets its contract. The loop's invariant: the first i lines stand.
 use borrow.Author.Needs.{needs}
 use mathlib.Core.Path.{refl}
 use mathlib.Core.List.{[]}
@@ -6,12 +6,13 @@ use Prim.Native.Nat.{_+_, _-_, _*_, _≤_}
 use native.Mathlib.Omega.{arith}
 use lib.ListN.{length}
 use Rattle.write_fields.specs.Inked.{Inked, upTo, inked-as, inked-none, inked-more, inked-all, room-as, room-next}
+use Rattle.print_report.specs.Widths.{openWidth}
 use Rattle.print_report.specs.Rows.{openAt, front-open-at, open-at-held}
 use Rattle.print_report.proofs.put_opens.Statement.{statement}
 use Rattle.print_report.proofs.put_opens.Tie as tie
 
 abbrev Inv-loop : tie.InvT-loop
-Inv-loop buf₀ at deck n cells base sources p₀ i₀ buf p i = (n ≤ 32) × (i ≤ n) × (base + n * 2 ≤ length cells) × Inked buf₀ at buf p (upTo (openAt deck sources cells base) i)
+Inv-loop buf₀ at deck n cells base sources p₀ i₀ buf p i = (n ≤ 32) × (i ≤ n) × (base + n * openWidth ≤ length cells) × Inked buf₀ at buf p (upTo (openAt deck sources cells base) i)
 
 abbrev μ-loop : tie.MeasureT-loop
 μ-loop buf₀ at deck n cells base sources p₀ i₀ buf p i = n - i
@@ -26,7 +27,10 @@ array-copy-out-place : tie.Need-array-copy-out-place Inv-loop μ-loop
 array-copy-out-place c = search needs
 
 part-at-requires : tie.Need-part-at-requires Inv-loop μ-loop
-part-at-requires c κs = c .before .before .before .before .before .pre .1 .each (c .before .before .loop .i)
+part-at-requires c κs =
+    let at-loop = c .before .before in
+    let s = at-loop .before .before .before in
+    s .pre .1 .each (at-loop .loop .i)
 
 mul-k : tie.Need-mul-k Inv-loop μ-loop
 mul-k c = search needs
@@ -51,11 +55,15 @@ shared-slice-copy-out-cost c = search needs
 
 put-open-requires : tie.Need-put-open-requires Inv-loop μ-loop
 put-open-requires c κs =
-    let loop = c .before .before .before .before .before .before .loop in
-    let s = c .before .before .before .before .before .before .before .before .before in
+    let cost = c .before in
+    let mwh = cost .before in
+    let part-at = mwh .before in
+    let at-loop = part-at .before .before .before in
+    let s = at-loop .before .before .before in
     let a = s .args in
-    room-as (open-at-held (a .deck .now) (a .t4) (a .cells .now) (a .base) (loop .i) _ (c .before .before .before .part-at .ensures) (record { sfits = c .before .before .mwh .given }) (record { sfits = c .before .cost .given }) [])
-    (room-next (openAt (a .deck .now) (a .t4) (a .cells .now) (a .base)) (front-open-at (a .deck .now) (a .t4) (a .cells .now) (a .base)) (loop .i) (a .n) (omega arith) (loop .inv .3) (s .pre .3))
+    let lines = openAt (a .deck .now) (a .t4) (a .cells .now) (a .base) in
+    room-as (open-at-held (a .deck .now) (a .t4) (a .cells .now) (a .base) (at-loop .loop .i) _ (part-at .part-at .ensures) (record { sfits = mwh .mwh .given }) (record { sfits = cost .cost .given }) [])
+    (room-next lines (front-open-at (a .deck .now) (a .t4) (a .cells .now) (a .base)) (at-loop .loop .i) (a .n) (omega arith) (at-loop .loop .inv .3) (s .pre .3))
 
 add-i : tie.Need-add-i Inv-loop μ-loop
 add-i c = search needs
@@ -65,18 +73,27 @@ loop-less c = search needs
 
 loop-again : tie.Need-loop-again Inv-loop μ-loop
 loop-again c =
-    let loop = c .before .before .before .before .before .before .before .before .before .loop in
-    let a = c .before .before .before .before .before .before .before .before .before .before .before .before .args in
-    let written = open-at-held (a .deck .now) (a .t4) (a .cells .now) (a .base) (loop .i) _ (c .before .before .before .before .before .before .part-at .ensures) (record { sfits = c .before .before .before .before .before .mwh .given }) (record { sfits = c .before .before .before .before .cost .given }) in
-    (search needs, search needs, search needs, inked-more _ _ (loop .inv .3) (inked-as written (c .before .before .put-open .ensures)))
+    let put-open = c .before .before in
+    let cost = put-open .before .before in
+    let mwh = cost .before in
+    let part-at = mwh .before in
+    let at-loop = part-at .before .before .before in
+    let s = at-loop .before .before .before in
+    let a = s .args in
+    let written = open-at-held (a .deck .now) (a .t4) (a .cells .now) (a .base) (at-loop .loop .i) _ (part-at .part-at .ensures) (record { sfits = mwh .mwh .given }) (record { sfits = cost .cost .given }) in
+    (search needs, search needs, search needs, inked-more _ _ (at-loop .loop .inv .3) (inked-as written (put-open .put-open .ensures)))
 
 same-length : tie.Need-same-length Inv-loop μ-loop
-same-length c = c .before .loop .inv .3 .kept
+same-length c =
+    let at-loop = c .before in
+    at-loop .loop .inv .3 .kept
 
 returns : tie.Need-returns Inv-loop μ-loop
 returns c =
-    let a = c .before .before .before .before .args in
-    inked-all (openAt (a .deck .now) (a .t4) (a .cells .now) (a .base)) (c .before .loop .i) (a .n) (λ rest. refl) (omega arith) (c .before .loop .inv .3)
+    let at-loop = c .before in
+    let s = at-loop .before .before .before in
+    let a = s .args in
+    inked-all (openAt (a .deck .now) (a .t4) (a .cells .now) (a .base)) (at-loop .loop .i) (a .n) (λ rest. refl) (omega arith) (at-loop .loop .inv .3)
 
 pub put-opens-spec : {M : Type 1} → statement M
 put-opens-spec =

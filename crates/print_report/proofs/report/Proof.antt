@@ -1,66 +1,188 @@
--- `printout::report` meets its contract. The report stands in a buffer of its own, which always has room; it is handed over where it fits.
+-- `print_report::report` meets its contract. The line of the deck's refusal, or else the hour's report, with memory for as many cells as it may have.
 use borrow.Author.Needs.{needs}
-use mathlib.Core.Path.{ap}
+use mathlib.Core.List.{[]}
+use mathlib.Core.Path.{_≡_, refl}
+use Prim.Native.Nat.{ℕ, _*_, _≤_}
+use native.Mathlib.Nat.{mul-le-mul}
 use native.Mathlib.Omega.{arith}
-use lib.ListN.{length}
-use Rattle.rules.specs.Report.{report}
-use Rattle.write_deck.specs.Verdict.{first-bytes}
-use Rattle.print_report.specs.ReportAtMost131072.{report-at-most}
-use Rattle.print_report.specs.Printing.{printed-short, printed-fits}
+use lib.IntN.{pos}
+use lib.ListN.{length, replicate}
+use Rattle.rules.specs.Refusals.{numberOf, placeOf}
+use Rattle.rules.specs.Report.{refusal}
+use Rattle.roundtrip.specs.DeckRoundTrip.{accepted-is-valid}
+use Rattle.roundtrip.specs.GivenHour.{accepted-given}
+use Rattle.reconstruct.specs.WholeAnswer.{count-few, placeable}
+use Rattle.print_lines.specs.Lines.{printed}
+use Rattle.print_report.specs.Widths.{pairWidth}
+use Rattle.print_report.specs.Printing.{scanned-refused, scanned-accepted, read-deck, refused-report, told-as}
 use Rattle.print_report.proofs.report.Statement.{statement}
 use Rattle.print_report.proofs.report.Tie as tie
 
-slice-aggregate-put-report : tie.Need-slice-aggregate-put-report
-slice-aggregate-put-report c = search needs
+scan-requires : tie.Need-scan-requires
+scan-requires c κs = search needs
 
-put-report-requires : tie.Need-put-report-requires
-put-report-requires c κs = omega (arith, report-at-most (c .before .before .before .args .deck .now))
+enum-known-verdict : tie.Need-enum-known-verdict
+enum-known-verdict c = search needs
 
-returns : tie.Need-returns
-returns c =
-    let s = c .before .before .before .before .before .before in
-    let r = c .before .before .put-report in
-    printed-short (s .args .deck .now) (s .args .out .now) (r .result) (r .ensures .0) (omega arith)
-
-sub-put-bytes : tie.Need-sub-put-bytes
-sub-put-bytes c = search needs
-
-part-put-bytes-start : tie.Need-part-put-bytes-start
-part-put-bytes-start c = search needs
-
-part-put-bytes-end : tie.Need-part-put-bytes-end
-part-put-bytes-end c =
-    let s = c .before .before .before .before .before .before .before .before in
-    let r = c .before .before .before .before .put-report in
-    omega (arith, report-at-most (s .args .deck .now), r .ensures .0)
-
-put-bytes-requires : tie.Need-put-bytes-requires
-put-bytes-requires c κs =
-    let s = c .before .before .before .before .before .before .before .before .before in
-    let r = c .before .before .before .before .before .put-report in
-    record { fits = omega (arith, ap length (first-bytes (report (s .args .deck .now)) _ (r .last .0) (r .result) (r .ensures .0) (r .ensures .1)), r .ensures .0) }
+hand-refusal-requires : tie.Need-hand-refusal-requires
+hand-refusal-requires c κs = search needs
 
 same-length : tie.Need-same-length
 same-length c = search needs
 
+returns : tie.Need-returns
+returns c =
+    let hand-refusal = c .before .before in
+    let verdict = hand-refusal .before .before .before in
+    let scan = verdict .before .before in
+    let s = scan .before .before .before in
+    let r = verdict .verdict .given .0 .0 in
+    let refused = scanned-refused (s .args .deck .now) (scan .scan .result) (scan .scan .ensures) r (verdict .verdict .given .1) in
+    told-as (s .args .deck .now) (s .args .out .now) (printed (refusal (numberOf r) (placeOf r)) []) (refused-report (s .args .deck .now) r refused) (hand-refusal .hand-refusal .ensures)
+
+enum-told : tie.Need-enum-told
+enum-told c = search needs
+
+numbers-requires : tie.Need-numbers-requires
+numbers-requires c κs =
+    let enum-told = c .before .before in
+    let scan = enum-told .before .before in
+    let s = scan .before .before .before in
+    let read = scanned-accepted (s .args .deck .now) (scan .scan .result) (scan .scan .ensures) (enum-told .enum-told .given .1) in
+    let valid = accepted-is-valid (s .args .deck .now) (scan .scan .result .hour) read in
+    placeable (scan .scan .result .hour) valid
+
+mul-count : tie.Need-mul-count
+mul-count c =
+    let enum-told = c .before .before .before .before in
+    let scan = enum-told .before .before in
+    let s = scan .before .before .before in
+    let read = scanned-accepted (s .args .deck .now) (scan .scan .result) (scan .scan .ensures) (enum-told .enum-told .given .1) in
+    let given = accepted-given (s .args .deck .now) (scan .scan .result .hour) read in
+    record { fits = omega (arith, given .sources .few) }
+
+mul-count-2 : tie.Need-mul-count-2
+mul-count-2 c =
+    let enum-told = c .before .before .before .before .before in
+    let scan = enum-told .before .before in
+    let s = scan .before .before .before in
+    let read = scanned-accepted (s .args .deck .now) (scan .scan .result) (scan .scan .ensures) (enum-told .enum-told .given .1) in
+    let given = accepted-given (s .args .deck .now) (scan .scan .result .hour) read in
+    let n : scan .scan .result .hour .nsources * pairWidth ≤ 128 = omega (arith, given .sources .few) in
+    record { fits = omega (arith, mul-le-mul (given .deliveries .few) n) }
+
+mul-count-3 : tie.Need-mul-count-3
+mul-count-3 c =
+    let enum-told = c .before .before .before .before .before .before in
+    let scan = enum-told .before .before in
+    let s = scan .before .before .before in
+    let read = scanned-accepted (s .args .deck .now) (scan .scan .result) (scan .scan .ensures) (enum-told .enum-told .given .1) in
+    let given = accepted-given (s .args .deck .now) (scan .scan .result .hour) read in
+    record { fits = omega (arith, given .sources .few) }
+
+add-count : tie.Need-add-count
+add-count c =
+    let enum-told = c .before .before .before .before .before .before in
+    let scan = enum-told .before .before in
+    let s = scan .before .before .before in
+    let read = scanned-accepted (s .args .deck .now) (scan .scan .result) (scan .scan .ensures) (enum-told .enum-told .given .1) in
+    let given = accepted-given (s .args .deck .now) (scan .scan .result .hour) read in
+    let n : scan .scan .result .hour .nsources * pairWidth ≤ 128 = omega (arith, given .sources .few) in
+    record { fits = omega (arith, given .sources .few, mul-le-mul (given .deliveries .few) n) }
+
+slice-aggregate-fill-cells : tie.Need-slice-aggregate-fill-cells
+slice-aggregate-fill-cells c = search needs
+
+fill-cells-requires : tie.Need-fill-cells-requires
+fill-cells-requires c κs =
+    let then1 = c .before in
+    let numbers = then1 .before .before .before .before in
+    let enum-told = numbers .before .before .before in
+    let scan = enum-told .before .before in
+    let s = scan .before .before .before in
+    let read = scanned-accepted (s .args .deck .now) (scan .scan .result) (scan .scan .ensures) (enum-told .enum-told .given .1) in
+    let valid = accepted-is-valid (s .args .deck .now) (scan .scan .result .hour) read in
+    let long : _≡_ {A = ℕ} (length (replicate 512 (pos 0))) 512 = refl in
+    (valid, numbers .numbers .ensures, omega (arith, long, then1 .if1 .taken))
+
+slice-aggregate-print-answer : tie.Need-slice-aggregate-print-answer
+slice-aggregate-print-answer c = search needs
+
+print-answer-requires : tie.Need-print-answer-requires
+print-answer-requires c κs =
+    let fill-cells = c .before .before .before in
+    let numbers = fill-cells .before .before .before .before .before .before in
+    let enum-told = numbers .before .before .before in
+    let scan = enum-told .before .before in
+    let s = scan .before .before .before in
+    (read-deck (s .args .deck .now) (scan .scan .result) _ (scan .scan .ensures) (enum-told .enum-told .given .1) (numbers .numbers .ensures), record { before = replicate 512 (pos 0); outcome = fill-cells .fill-cells .ensures .0; left = fill-cells .fill-cells .ensures .1 })
+
+same-length-2 : tie.Need-same-length-2
+same-length-2 c = search needs
+
 returns-2 : tie.Need-returns-2
 returns-2 c =
-    let s = c .before .before .before .before .before .before .before .before .before .before .before .before in
-    let r = c .before .before .before .before .before .before .before .before .put-report in
-    let put = c .before .before .put-bytes in
-    printed-fits (s .args .deck .now) (s .args .out .now) (r .result) (r .ensures .0) _ (put .last .0) (put .result) (omega arith)
-    (first-bytes (report (s .args .deck .now)) _ (r .last .0) (r .result) (r .ensures .0) (r .ensures .1)) (put .ensures)
+    let print-answer = c .before .before in
+    print-answer .print-answer .ensures
+
+slice-aggregate-fill-cells-2 : tie.Need-slice-aggregate-fill-cells-2
+slice-aggregate-fill-cells-2 c = search needs
+
+fill-cells-requires-2 : tie.Need-fill-cells-requires-2
+fill-cells-requires-2 c κs =
+    let numbers = c .before .before .before .before .before in
+    let enum-told = numbers .before .before .before in
+    let scan = enum-told .before .before in
+    let s = scan .before .before .before in
+    let read = scanned-accepted (s .args .deck .now) (scan .scan .result) (scan .scan .ensures) (enum-told .enum-told .given .1) in
+    let valid = accepted-is-valid (s .args .deck .now) (scan .scan .result .hour) read in
+    let long : _≡_ {A = ℕ} (length (replicate 4160 (pos 0))) 4160 = refl in
+    (valid, numbers .numbers .ensures, omega (arith, long, count-few (scan .scan .result .hour) valid))
+
+slice-aggregate-print-answer-2 : tie.Need-slice-aggregate-print-answer-2
+slice-aggregate-print-answer-2 c = search needs
+
+print-answer-requires-2 : tie.Need-print-answer-requires-2
+print-answer-requires-2 c κs =
+    let fill-cells2 = c .before .before .before in
+    let numbers = fill-cells2 .before .before .before .before .before .before in
+    let enum-told = numbers .before .before .before in
+    let scan = enum-told .before .before in
+    let s = scan .before .before .before in
+    (read-deck (s .args .deck .now) (scan .scan .result) _ (scan .scan .ensures) (enum-told .enum-told .given .1) (numbers .numbers .ensures), record { before = replicate 4160 (pos 0); outcome = fill-cells2 .fill-cells2 .ensures .0; left = fill-cells2 .fill-cells2 .ensures .1 })
+
+same-length-3 : tie.Need-same-length-3
+same-length-3 c = search needs
+
+returns-3 : tie.Need-returns-3
+returns-3 c =
+    let print-answer2 = c .before .before in
+    print-answer2 .print-answer2 .ensures
 
 pub report-spec : {M : Type 1} → statement M
 report-spec =
     tie.close
     (tie.spec
-    slice-aggregate-put-report
-    put-report-requires
-    returns
-    sub-put-bytes
-    part-put-bytes-start
-    part-put-bytes-end
-    put-bytes-requires
+    scan-requires
+    enum-known-verdict
+    hand-refusal-requires
     same-length
-    returns-2)
+    returns
+    enum-told
+    numbers-requires
+    mul-count
+    mul-count-2
+    mul-count-3
+    add-count
+    slice-aggregate-fill-cells
+    fill-cells-requires
+    slice-aggregate-print-answer
+    print-answer-requires
+    same-length-2
+    returns-2
+    slice-aggregate-fill-cells-2
+    fill-cells-requires-2
+    slice-aggregate-print-answer-2
+    print-answer-requires-2
+    same-length-3
+    returns-3)

@@ -1,4 +1,4 @@
--- `ink::characters` meets its contract. A label has as many characters as it says, and no more than its 16 bytes.
+-- `write_fields::characters` meets its contract. A label has as many characters as it says, and no more than its 16 bytes.
 use borrow.Author.Needs.{needs}
 use mathlib.Core.Path.{_≡_}
 use native.Mathlib.Omega.{arith}

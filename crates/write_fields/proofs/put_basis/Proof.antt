@@ -1,4 +1,4 @@
--- `ink::put_basis` meets its contract. By the basis's three cases.
+-- `write_fields::put_basis` meets its contract. By the basis's three cases.
 use borrow.Author.Needs.{needs}
 use mathlib.Core.List.{[]}
 use Rattle.write_fields.specs.Inked.{inked-as, room-as}

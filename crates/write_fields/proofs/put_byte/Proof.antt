@@ -1,4 +1,4 @@
--- `ink::put_byte` meets its contract. One store.
+-- `write_fields::put_byte` meets its contract. One store.
 use borrow.Author.Needs.{needs}
 use Rattle.write_fields.specs.Inked.{inked-byte}
 use Rattle.write_fields.proofs.put_byte.Statement.{statement}

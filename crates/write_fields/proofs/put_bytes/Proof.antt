@@ -1,33 +1,31 @@
--- `ink::put_bytes` meets its contract. The loop's invariant: the first i bytes stand.
+-- `write_fields::put_bytes` meets its contract. The loop's invariant: the first i bytes stand.
 use borrow.Author.Needs.{needs}
-use Prim.Native.Nat.{_≤_, _-_}
-use mathlib.Core.Path.{_∙_}
-use mathlib.Core.List.{[], append-nil}
+use mathlib.Core.List.{[]}
+use Prim.Native.Nat.{_+_, _-_, _≤_}
 use native.Mathlib.Omega.{arith}
-use lib.ListN.{length, getD}
-use Rattle.write_fields.specs.Inked.{Inked, upTo, inked-none, inked-more, inked-all, room-next, room-as, front-byte}
-use Rattle.write_fields.specs.Texts.{storedAt, stored-all}
+use lib.ListN.{length}
+use Rattle.write_fields.specs.Inked.{room-as, room-first}
+use Rattle.write_fields.specs.Texts.{Copied, copied-none, copied-more, copied-all, copied-room, front-eight, from-eight}
 use Rattle.write_fields.proofs.put_bytes.Statement.{statement}
 use Rattle.write_fields.proofs.put_bytes.Tie as tie
 
 abbrev Inv-loop : tie.InvT-loop
-Inv-loop buf₀ at src p₀ i₀ buf p i = (i ≤ length src) × Inked buf₀ at buf p (upTo (storedAt src) i)
+Inv-loop buf₀ at src p₀ i₀ buf p i = (i ≤ length src) × Copied buf₀ at buf p src i
 
 abbrev μ-loop : tie.MeasureT-loop
 μ-loop buf₀ at src p₀ i₀ buf p i = length src - i
 
 loop-holds : tie.Need-loop-holds Inv-loop μ-loop
-loop-holds c = (search needs, inked-none _ _ _)
+loop-holds c = (search needs, copied-none _ _ _)
 
-shared-slice-read-put-byte : tie.Need-shared-slice-read-put-byte Inv-loop μ-loop
-shared-slice-read-put-byte c = search needs
+sub-loop : tie.Need-sub-loop Inv-loop μ-loop
+sub-loop c = search needs
 
-put-byte-requires : tie.Need-put-byte-requires Inv-loop μ-loop
-put-byte-requires c κs =
-    let l = c .before .before .before .loop in
-    let a = c .before .before .before .before .before .before in
-    let src = a .args .src .now in
-    room-next (storedAt src) (λ i. front-byte (getD src i 0)) (l .i) (length src) (omega arith) (l .inv .1) (room-as (stored-all src [] ∙ append-nil src) (a .pre))
+copy-eight-requires : tie.Need-copy-eight-requires Inv-loop μ-loop
+copy-eight-requires c κs =
+    let at-loop = c .before .before in
+    let s = at-loop .before .before .before in
+    (omega arith, room-first (front-eight (s .args .src .now) (at-loop .loop .i)) (room-as (from-eight (s .args .src .now) (at-loop .loop .i) (omega arith) []) (copied-room (at-loop .loop .inv .1) (s .pre))))
 
 add-i : tie.Need-add-i Inv-loop μ-loop
 add-i c = search needs
@@ -36,15 +34,26 @@ loop-less : tie.Need-loop-less Inv-loop μ-loop
 loop-less c = search needs
 
 loop-again : tie.Need-loop-again Inv-loop μ-loop
-loop-again c = (search needs, inked-more _ _ (c .before .before .before .before .before .before .loop .inv .1) (c .before .before .put-byte .ensures))
+loop-again c =
+    let copy-eight = c .before .before in
+    let at-loop = copy-eight .before .before .before in
+    let s = at-loop .before .before .before in
+    (search needs, copied-more (at-loop .loop .inv .1) (at-loop .loop .i + 8) (copy-eight .copy-eight .ensures) (from-eight (s .args .src .now) (at-loop .loop .i) (omega arith)))
+
+copy-rest-requires : tie.Need-copy-rest-requires Inv-loop μ-loop
+copy-rest-requires c κs =
+    let at-loop = c .before .before in
+    let s = at-loop .before .before .before in
+    (at-loop .loop .inv .0, omega arith, copied-room (at-loop .loop .inv .1) (s .pre))
 
 same-length : tie.Need-same-length Inv-loop μ-loop
-same-length c = c .before .loop .inv .1 .kept
+same-length c = search needs
 
 returns : tie.Need-returns Inv-loop μ-loop
 returns c =
-    let src = c .before .before .before .before .args .src .now in
-    inked-all (storedAt src) (c .before .loop .i) (length src) (stored-all src) (omega arith) (c .before .loop .inv .1)
+    let copy-rest = c .before .before in
+    let at-loop = copy-rest .before .before .before in
+    copied-all (at-loop .loop .inv .1) (copy-rest .copy-rest .ensures)
 
 pub put-bytes-spec : {M : Type 1} → statement M
 put-bytes-spec =
@@ -53,10 +62,11 @@ put-bytes-spec =
     Inv-loop
     μ-loop
     loop-holds
-    shared-slice-read-put-byte
-    put-byte-requires
+    sub-loop
+    copy-eight-requires
     add-i
     loop-less
     loop-again
+    copy-rest-requires
     same-length
     returns)

@@ -1,4 +1,4 @@
--- `ink::put_character` meets its contract. A quote and a backslash go after a backslash, and all else as it is.
+-- `write_fields::put_character` meets its contract. A quote and a backslash go after a backslash, and all else as it is.
 use borrow.Author.Needs.{needs}
 use mathlib.Core.List.{[]}
 use borrow.Author.Tests.{ne-eqb}

@@ -1,4 +1,4 @@
--- `ink::put_escaped` meets its contract. The loop's invariant: the first i characters stand, escaped.
+-- `write_fields::put_escaped` meets its contract. The loop's invariant: the first i characters stand, escaped.
 use borrow.Author.Needs.{needs}
 use Prim.Native.Nat.{_≤_, _-_}
 use mathlib.Core.Path.{_≡_}

@@ -1,4 +1,4 @@
--- `ink::put_label` meets its contract. The characters between two quotes.
+-- `write_fields::put_label` meets its contract. The characters between two quotes.
 use borrow.Author.Needs.{needs}
 use Rattle.rules.specs.Fields.{escape}
 use Rattle.rules.specs.Record.{chars}

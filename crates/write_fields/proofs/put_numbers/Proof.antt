@@ -1,4 +1,4 @@
--- `ink::put_numbers` meets its contract. The loop's invariant: the first i numbers stand.
+-- `write_fields::put_numbers` meets its contract. The loop's invariant: the first i numbers stand.
 use borrow.Author.Needs.{needs}
 use Prim.Native.Nat.{_≤_, _-_}
 use mathlib.Core.Path.{refl}

@@ -1,4 +1,4 @@
--- `ink::put_spaced` meets its contract. A space, then the digits.
+-- `write_fields::put_spaced` meets its contract. A space, then the digits.
 use borrow.Author.Needs.{needs}
 use Rattle.write_fields.specs.Inked.{inked-then, room-first, room-after, front-byte}
 use Rattle.write_fields.proofs.put_spaced.Statement.{statement}

@@ -1,4 +1,4 @@
--- `ink::put_two` meets its contract. One byte, then the other.
+-- `write_fields::put_two` meets its contract. One byte, then the other.
 use borrow.Author.Needs.{needs}
 use Rattle.write_fields.specs.Inked.{inked-then, room-after}
 use Rattle.write_fields.proofs.put_two.Statement.{statement}

@@ -1,0 +1,136 @@
+-- `print_report::opens_length` meets its contract. The loop's invariant: the size is that of the first i lines.
+use borrow.Author.Needs.{needs}
+use mathlib.Core.Path.{_≡_, ap, sym, _∙_}
+use mathlib.Core.List.{[]}
+use Prim.Native.Nat.{_+_, _-_, _*_, _≤_}
+use native.Mathlib.Omega.{arith}
+use lib.ListN.{length}
+use Rattle.write_fields.specs.Inked.{upTo}
+use Rattle.print_report.specs.Widths.{openWidth}
+use Rattle.print_report.specs.Rows.{openAt, front-open-at, open-at-held, length-none, length-more, length-within}
+use Rattle.print_report.proofs.opens_length.Statement.{statement}
+use Rattle.print_report.proofs.opens_length.Tie as tie
+
+abbrev Inv-loop : tie.InvT-loop
+Inv-loop deck n cells base sources size₀ i₀ size i = (n ≤ 32) × (i ≤ n) × (base + n * openWidth ≤ length cells) × (size ≡ length (upTo (openAt deck sources cells base) i []))
+
+abbrev μ-loop : tie.MeasureT-loop
+μ-loop deck n cells base sources size₀ i₀ size i = n - i
+
+loop-holds : tie.Need-loop-holds Inv-loop μ-loop
+loop-holds c = (search needs, search needs, search needs, sym (length-none _))
+
+mul-place : tie.Need-mul-place Inv-loop μ-loop
+mul-place c = search needs
+
+array-copy-out-place : tie.Need-array-copy-out-place Inv-loop μ-loop
+array-copy-out-place c = search needs
+
+part-at-requires : tie.Need-part-at-requires Inv-loop μ-loop
+part-at-requires c κs =
+    let at-loop = c .before .before in
+    let s = at-loop .before .before in
+    s .pre .1 .each (at-loop .loop .i)
+
+mul-k : tie.Need-mul-k Inv-loop μ-loop
+mul-k c = search needs
+
+add-k : tie.Need-add-k Inv-loop μ-loop
+add-k c = search needs
+
+mul-mwh : tie.Need-mul-mwh Inv-loop μ-loop
+mul-mwh c = search needs
+
+shared-slice-copy-out-mwh : tie.Need-shared-slice-copy-out-mwh Inv-loop μ-loop
+shared-slice-copy-out-mwh c = search needs
+
+add-cost : tie.Need-add-cost Inv-loop μ-loop
+add-cost c = search needs
+
+mul-cost : tie.Need-mul-cost Inv-loop μ-loop
+mul-cost c = search needs
+
+shared-slice-copy-out-cost : tie.Need-shared-slice-copy-out-cost Inv-loop μ-loop
+shared-slice-copy-out-cost c = search needs
+
+open-length-requires : tie.Need-open-length-requires Inv-loop μ-loop
+open-length-requires c κs =
+    let cost = c in
+    let mwh = cost .before in
+    let part-at = mwh .before in
+    let at-loop = part-at .before .before .before in
+    let s = at-loop .before .before in
+    let a = s .args in
+    let lines = openAt (a .deck .now) (a .t2) (a .cells .now) (a .base) in
+    let fronts = front-open-at (a .deck .now) (a .t2) (a .cells .now) (a .base) in
+    let written = ap length (open-at-held (a .deck .now) (a .t2) (a .cells .now) (a .base) (at-loop .loop .i) _ (part-at .part-at .ensures) (record { sfits = mwh .mwh .given }) (record { sfits = cost .cost .given }) []) in
+    let within = length-within lines fronts (at-loop .loop .i) (a .n) (omega arith) in
+    omega (arith, written, within, s .pre .3)
+
+add-size : tie.Need-add-size Inv-loop μ-loop
+add-size c =
+    let open-length = c in
+    let cost = open-length .before in
+    let mwh = cost .before in
+    let part-at = mwh .before in
+    let at-loop = part-at .before .before .before in
+    let s = at-loop .before .before in
+    let a = s .args in
+    let lines = openAt (a .deck .now) (a .t2) (a .cells .now) (a .base) in
+    let fronts = front-open-at (a .deck .now) (a .t2) (a .cells .now) (a .base) in
+    let written = ap length (open-at-held (a .deck .now) (a .t2) (a .cells .now) (a .base) (at-loop .loop .i) _ (part-at .part-at .ensures) (record { sfits = mwh .mwh .given }) (record { sfits = cost .cost .given }) []) in
+    let within = length-within lines fronts (at-loop .loop .i) (a .n) (omega arith) in
+    record { fits = omega (arith, written, within, s .pre .3, open-length .open-length .ensures, at-loop .loop .inv .3) }
+
+add-i : tie.Need-add-i Inv-loop μ-loop
+add-i c = search needs
+
+loop-less : tie.Need-loop-less Inv-loop μ-loop
+loop-less c = search needs
+
+loop-again : tie.Need-loop-again Inv-loop μ-loop
+loop-again c =
+    let open-length = c in
+    let cost = open-length .before in
+    let mwh = cost .before in
+    let part-at = mwh .before in
+    let at-loop = part-at .before .before .before in
+    let s = at-loop .before .before in
+    let a = s .args in
+    let lines = openAt (a .deck .now) (a .t2) (a .cells .now) (a .base) in
+    let fronts = front-open-at (a .deck .now) (a .t2) (a .cells .now) (a .base) in
+    let written = ap length (open-at-held (a .deck .now) (a .t2) (a .cells .now) (a .base) (at-loop .loop .i) _ (part-at .part-at .ensures) (record { sfits = mwh .mwh .given }) (record { sfits = cost .cost .given }) []) in
+    let within = length-within lines fronts (at-loop .loop .i) (a .n) (omega arith) in
+    (search needs, search needs, search needs, omega (arith, written, length-more lines fronts (at-loop .loop .i), open-length .open-length .ensures, at-loop .loop .inv .3))
+
+returns : tie.Need-returns Inv-loop μ-loop
+returns c =
+    let at-loop = c .before in
+    let s = at-loop .before .before in
+    let a = s .args in
+    let e : at-loop .loop .i ≡ a .n = omega arith in
+    at-loop .loop .inv .3 ∙ ap (λ k. length (upTo (openAt (a .deck .now) (a .t2) (a .cells .now) (a .base)) k [])) e
+
+pub opens-length-spec : {M : Type 1} → statement M
+opens-length-spec =
+    tie.close
+    (tie.spec
+    Inv-loop
+    μ-loop
+    loop-holds
+    mul-place
+    array-copy-out-place
+    part-at-requires
+    mul-k
+    add-k
+    mul-mwh
+    shared-slice-copy-out-mwh
+    add-cost
+    mul-cost
+    shared-slice-copy-out-cost
+    open-length-requires
+    add-size
+    add-i
+    loop-less
+    loop-again
+    returns)
