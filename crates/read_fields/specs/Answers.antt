@@ -45,7 +45,3 @@ endOf none = Unclosed
 abbrev pub labelField : Field Place → LabelField
 labelField (got p next) = LabelAt (p .from) (p .upto) next
 labelField malformed = NoLabel
-
--- where the character stands that is written from the index i on: after a backslash, or there
-abbrev pub characterAt : List ℕ → ℕ → ℕ
-characterAt t i = if eqb (byte t i) 92 then i + 1 else i

@@ -1,4 +1,4 @@
--- `text::read_label` meets its contract: reading on from here gives what reading from the opening quote gives.
+-- `read_fields::read_label` meets its contract: reading on from here gives what reading from the opening quote gives.
 use Prim.Native.Nat.{_+_, _-_, _<_, _≤_}
 use mathlib.Core.Path.{_≡_, ap, sym, _∙_}
 use mathlib.Core.Bool.{false}
@@ -25,73 +25,57 @@ escaped c = ap isEscaped (sym (c .before .peek2 .ensures)) ∙ sym (c .is-escape
 second-inside : (c : tie.Else4 Inv-loop μ-loop) → c .before .before .before .before .before .before .before .loop .i + 1 < length (c .before .before .before .before .before .before .before .before .before .before .before .args .part .now)
 second-inside c = byte-inside (c .before .before .before .before .before .before .before .before .before .before .before .args .part .now) (c .before .before .before .before .before .before .before .loop .i + 1) (escaped-inside _ (escaped (c .before) ∙ not-false _ (c .if4 .left)))
 
--- src/lib.rt:219:8
 peek-requires : tie.Need-peek-requires Inv-loop μ-loop
 peek-requires c κs = search needs
 
--- src/lib.rt:220:9
 returns : tie.Need-returns Inv-loop μ-loop
 returns c = ap endOf (sym (label-unquoted (c .before .before .before .args .part .now) (λ e. c .if1 .taken (c .before .peek .ensures ∙ e))))
 
--- src/lib.rt:224:5
 loop-holds : tie.Need-loop-holds Inv-loop μ-loop
 loop-holds c = (omega arith, label-quoted (c .before .before .before .args .part .now) (sym (c .before .peek .ensures) ∙ c .if1 .left))
 
--- src/lib.rt:225:17
 shared-slice-read-b : tie.Need-shared-slice-read-b Inv-loop μ-loop
 shared-slice-read-b c = search needs
 
--- src/lib.rt:227:13
 closed-requires : tie.Need-closed-requires Inv-loop μ-loop
 closed-requires c κs = search needs
 
--- src/lib.rt:227:13
 returns-2 : tie.Need-returns-2 Inv-loop μ-loop
 returns-2 c =
     let l = c .before .before .before .before .loop in
     c .closed .ensures ∙ ap endOf (sym (quote-closes (c .before .before .before .before .before .before .before .before .args .part .now) (l .n) (l .i) (c .before .if2 .taken)) ∙ l .inv .1)
 
--- src/lib.rt:230:32
 add-peek : tie.Need-add-peek Inv-loop μ-loop
 add-peek c = search needs
 
--- src/lib.rt:230:17
 peek-requires-2 : tie.Need-peek-requires-2 Inv-loop μ-loop
 peek-requires-2 c κs = search needs
 
--- src/lib.rt:231:17
 is-escaped-requires : tie.Need-is-escaped-requires Inv-loop μ-loop
 is-escaped-requires c κs = search needs
 
--- src/lib.rt:232:17
 returns-3 : tie.Need-returns-3 Inv-loop μ-loop
 returns-3 c =
     let l = c .before .before .before .before .before .before .before .loop in
     ap endOf (sym (escaped-none (c .before .before .before .before .before .before .before .before .before .before .before .args .part .now) (l .n) (l .i) (c .before .before .before .if3 .taken) (escaped (c .before) ∙ not-true _ (c .if4 .taken))) ∙ l .inv .1)
 
--- src/lib.rt:234:13
 add-n : tie.Need-add-n Inv-loop μ-loop
 add-n c = search needs
 
--- src/lib.rt:235:13
 add-i : tie.Need-add-i Inv-loop μ-loop
 add-i c = omega (arith, second-inside c)
 
--- src/lib.rt:224:5
 loop-less : tie.Need-loop-less Inv-loop μ-loop
 loop-less c = search needs
 
--- src/lib.rt:224:5
 loop-again : tie.Need-loop-again Inv-loop μ-loop
 loop-again c =
     let l = c .before .before .before .before .before .before .before .loop in
     (omega arith, sym (escaped-more (c .before .before .before .before .before .before .before .before .before .before .before .args .part .now) (l .n) (l .i) (c .before .before .before .if3 .taken) (escaped (c .before) ∙ not-false _ (c .if4 .left))) ∙ l .inv .1)
 
--- src/lib.rt:237:17
 is-character-requires : tie.Need-is-character-requires Inv-loop μ-loop
 is-character-requires c κs = search needs
 
--- src/lib.rt:238:17
 returns-4 : tie.Need-returns-4 Inv-loop μ-loop
 returns-4 c =
     let l = c .before .before .before .before .before .before .loop in
@@ -99,19 +83,15 @@ returns-4 c =
     (sym (character-none (c .before .before .before .before .before .before .before .before .before .before .args .part .now) (l .n) (l .i) (omega arith) (c .before .before .before .if2 .left) (c .before .before .if3 .left) (sym (c .before .is-character .ensures) ∙ not-true _ (c .if5 .taken)))
     ∙ l .inv .1)
 
--- src/lib.rt:240:13
 add-n-2 : tie.Need-add-n-2 Inv-loop μ-loop
 add-n-2 c = search needs
 
--- src/lib.rt:241:13
 add-i-2 : tie.Need-add-i-2 Inv-loop μ-loop
 add-i-2 c = search needs
 
--- src/lib.rt:224:5
 loop-less-2 : tie.Need-loop-less-2 Inv-loop μ-loop
 loop-less-2 c = search needs
 
--- src/lib.rt:224:5
 loop-again-2 : tie.Need-loop-again-2 Inv-loop μ-loop
 loop-again-2 c =
     let l = c .before .before .before .before .before .before .loop in (
@@ -120,7 +100,6 @@ loop-again-2 c =
           ∙ l .inv .1,
     )
 
--- src/lib.rt:216:1
 returns-5 : tie.Need-returns-5 Inv-loop μ-loop
 returns-5 c = let l = c .before .loop in ap endOf (sym (closing-end (c .before .before .before .before .before .args .part .now) (l .n) (l .i) (c .loop-test .left)) ∙ l .inv .1)
 

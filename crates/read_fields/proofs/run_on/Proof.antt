@@ -1,4 +1,4 @@
--- `text::run_on` meets its contract: reading on from here, with the value cut, gives what reading from the start gives.
+-- `read_fields::run_on` meets its contract: reading on from here, with the value cut, gives what reading from the start gives.
 use mathlib.Core.Bool.{true}
 use borrow.Author.Tests.{not-true, not-false}
 use Rattle.roundtrip.specs.Numbers.{digit-from}
@@ -25,59 +25,46 @@ digit c = sym (c .before .is-digit .ensures) ∙ not-false _ (c .if1 .left)
 bounds : (c : tie.Else1 Inv-loop μ-loop) → (48 ≤ getD (c .before .before .before .before .before .before .args .s .now) (c .before .before .before .before .loop .i) 0) × (getD (c .before .before .before .before .before .before .args .s .now) (c .before .before .before .before .loop .i) 0 ≤ 57)
 bounds c = digit-from _ (digit c)
 
--- src/lib.rt:106:5
 loop-holds : tie.Need-loop-holds Inv-loop μ-loop
 loop-holds c = search needs
 
--- src/lib.rt:107:17
 shared-slice-read-b : tie.Need-shared-slice-read-b Inv-loop μ-loop
 shared-slice-read-b c = search needs
 
--- src/lib.rt:108:13
 is-digit-requires : tie.Need-is-digit-requires Inv-loop μ-loop
 is-digit-requires c κs = search needs
 
--- src/lib.rt:109:13
 returns : tie.Need-returns Inv-loop μ-loop
 returns c =
     let l = c .before .before .before .before .loop in
     cut-stop (c .before .before .before .before .before .before .args .s .now) (l .i) (l .v) (l .inv .0) (sym (c .before .is-digit .ensures) ∙ not-true _ (c .if1 .taken)) ∙ l .inv .1
 
--- src/lib.rt:111:20
 mul-cut-at : tie.Need-mul-cut-at Inv-loop μ-loop
 mul-cut-at c = search needs
 
--- src/lib.rt:111:30
+sub-wide : tie.Need-sub-wide Inv-loop μ-loop
+sub-wide c = omega (arith, bounds c)
+
 wide-requires : tie.Need-wide-requires Inv-loop μ-loop
 wide-requires c κs = search needs
 
--- src/lib.rt:111:30
-sub-cut-at : tie.Need-sub-cut-at Inv-loop μ-loop
-sub-cut-at c = omega (arith, bounds (c .before), c .wide .ensures)
-
--- src/lib.rt:111:20
 add-cut-at : tie.Need-add-cut-at Inv-loop μ-loop
 add-cut-at c = omega (arith, bounds (c .before), c .wide .ensures)
 
--- src/lib.rt:111:9
 cut-at-requires : tie.Need-cut-at-requires Inv-loop μ-loop
 cut-at-requires c κs = search needs
 
--- src/lib.rt:112:9
 add-i : tie.Need-add-i Inv-loop μ-loop
 add-i c = search needs
 
--- src/lib.rt:106:5
 loop-less : tie.Need-loop-less Inv-loop μ-loop
 loop-less c = search needs
 
--- src/lib.rt:106:5
 loop-again : tie.Need-loop-again Inv-loop μ-loop
 loop-again c =
     let l = c .before .before .before .before .before .before .loop in
     (omega (arith, c .cut-at .ensures), cc (cut-more (c .before .before .before .before .before .before .before .before .args .s .now) (l .i) (l .v) (digit (c .before .before))))
 
--- src/lib.rt:100:1
 returns-2 : tie.Need-returns-2 Inv-loop μ-loop
 returns-2 c =
     let l = c .before .loop in
@@ -95,8 +82,8 @@ run-on-spec =
     is-digit-requires
     returns
     mul-cut-at
+    sub-wide
     wide-requires
-    sub-cut-at
     add-cut-at
     cut-at-requires
     add-i
