@@ -1,7 +1,7 @@
 -- What the loop that gives the verdict alone keeps: some hour has the counts, the tables and the totals that it keeps.
 use mathlib.Core.Path.{_≡_, refl, ap, sym, subst, _∙_}
 use mathlib.Core.List.{List}
-use Prim.Native.Nat.{ℕ, _+_, _<_, _≤_}
+use Prim.Native.Nat.{ℕ, _+_, _≤_}
 use lib.ListN.{length, getD, set}
 use Rattle.rules.specs.Answers.{verdictOf}
 use Rattle.rules.specs.Refusals.{Outcome, refused}

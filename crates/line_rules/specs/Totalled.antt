@@ -12,7 +12,7 @@ use lib.Dec.{ltb, eqb}
 use lib.ListN.{getD}
 use borrow.Author.Tests.{eqb-true, eqb-false}
 use Rattle.rules.specs.Words as words
-use Rattle.rules.specs.Words.{if_then_else_, sumTo, anyTo, findTo}
+use Rattle.rules.specs.Words.{if_then_else_, anyTo}
 use Rattle.rules.specs.Answers.{verdictOf}
 use Rattle.rules.specs.Units.{generation}
 use Rattle.rules.specs.Sequences.{noDelivery, toPlace}

@@ -170,7 +170,7 @@ pub fn spaced_basis(s: &[u8], at: usize) -> BasisField
 
 // Labels.
 
-fn is_character(c: u8) -> bool
+pub fn is_character(c: u8) -> bool
     ensures { λ r. ⌜ r ≡ isCharacter c ⌝ }
 {
     if c < b' ' {

@@ -1,5 +1,5 @@
 -- `deck::check_rows` meets its contract: reading on from where the loop stands gives what reading from the start gives, by an hour that is nowhere kept.
-use mathlib.Core.Path.{_≡_, refl, ap, _∙_}
+use mathlib.Core.Path.{refl, ap, _∙_}
 use mathlib.Core.List.{List}
 use Prim.Native.Nat.{ℕ, _-_, _<_}
 use native.Mathlib.Omega.{arith}

@@ -1,7 +1,5 @@
 -- `deck::source_at` meets its contract: the rules tried on the source that was read, with its label where it stands.
-use mathlib.Core.List.{List}
 use mathlib.Core.Path.{sym, _∙_}
-use Prim.Native.Nat.{ℕ}
 use native.Mathlib.Omega.{arith}
 use Rattle.read_lines.specs.Cut.{LabelStands}
 use Rattle.deck.specs.Steps as steps

@@ -1,6 +1,5 @@
 -- `line_rules::add_source` meets its contract: the sum grows by what the source generates.
-use mathlib.Core.Path.{_∙_, ap}
-use Prim.Native.Nat.{_+_}
+use mathlib.Core.Path.{_∙_}
 use native.Mathlib.Omega.{arith}
 use borrow.Author.Needs.{needs}
 use Rattle.line_rules.proofs.add_source.Statement.{statement}

@@ -21,7 +21,9 @@ add-if1 c = search needs
 
 returns : tie.Need-returns
 unfolding totalled.finishedBy
-returns c = rw (sum-above refl (c .before .before .before .wide .ensures .0) refl (c .if1 .taken))
+returns c =
+    let after-wide = c .before .before .before in
+    rw (sum-above refl (after-wide .wide .ensures .0) refl (c .if1 .taken))
 
 returns-2 : tie.Need-returns-2
 unfolding totalled.finishedBy

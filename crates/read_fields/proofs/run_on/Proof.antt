@@ -19,11 +19,14 @@ Inv-loop s at before v₀ i₀ v i = (v ≤ 1_000_000) × (numberField (run v i 
 abbrev μ-loop : tie.MeasureT-loop
 μ-loop s at before v₀ i₀ v i = length s - i
 
-digit : (c : tie.Else1 Inv-loop μ-loop) → isDigit (getD (c .before .before .before .before .before .before .args .s .now) (c .before .before .before .before .loop .i) 0) ≡ true
-digit c = sym (c .before .is-digit .ensures) ∙ not-false _ (c .if1 .left)
+digit : (c : tie.Else1 Inv-loop μ-loop) → let at-loop = c .before .before .before .before in let start = at-loop .before .before in isDigit (getD (start .args .s .now) (at-loop .loop .i) 0) ≡ true
+digit c =
+    let after-is-digit = c .before in
+    sym (after-is-digit .is-digit .ensures) ∙ not-false _ (c .if1 .left)
 
-bounds : (c : tie.Else1 Inv-loop μ-loop) → (48 ≤ getD (c .before .before .before .before .before .before .args .s .now) (c .before .before .before .before .loop .i) 0) × (getD (c .before .before .before .before .before .before .args .s .now) (c .before .before .before .before .loop .i) 0 ≤ 57)
-bounds c = digit-from _ (digit c)
+bounds : (c : tie.Else1 Inv-loop μ-loop) → let at-loop = c .before .before .before .before in let start = at-loop .before .before in (48 ≤ getD (start .args .s .now) (at-loop .loop .i) 0) × (getD (start .args .s .now) (at-loop .loop .i) 0 ≤ 57)
+bounds c =
+    digit-from _ (digit c)
 
 loop-holds : tie.Need-loop-holds Inv-loop μ-loop
 loop-holds c = search needs
@@ -36,8 +39,11 @@ is-digit-requires c κs = search needs
 
 returns : tie.Need-returns Inv-loop μ-loop
 returns c =
-    let l = c .before .before .before .before .loop in
-    cut-stop (c .before .before .before .before .before .before .args .s .now) (l .i) (l .v) (l .inv .0) (sym (c .before .is-digit .ensures) ∙ not-true _ (c .if1 .taken)) ∙ l .inv .1
+    let after-is-digit = c .before in
+    let at-loop = after-is-digit .before .before .before in
+    let start = at-loop .before .before in
+    let l = at-loop .loop in
+    cut-stop (start .args .s .now) (l .i) (l .v) (l .inv .0) (sym (after-is-digit .is-digit .ensures) ∙ not-true _ (c .if1 .taken)) ∙ l .inv .1
 
 mul-cut-at : tie.Need-mul-cut-at Inv-loop μ-loop
 mul-cut-at c = search needs
@@ -62,13 +68,18 @@ loop-less c = search needs
 
 loop-again : tie.Need-loop-again Inv-loop μ-loop
 loop-again c =
-    let l = c .before .before .before .before .before .before .loop in
-    (omega (arith, c .cut-at .ensures), cc (cut-more (c .before .before .before .before .before .before .before .before .args .s .now) (l .i) (l .v) (digit (c .before .before))))
+    let if1-left = c .before .before in
+    let at-loop = if1-left .before .before .before .before in
+    let start = at-loop .before .before in
+    let l = at-loop .loop in
+    (omega (arith, c .cut-at .ensures), cc (cut-more (start .args .s .now) (l .i) (l .v) (digit if1-left)))
 
 returns-2 : tie.Need-returns-2 Inv-loop μ-loop
 returns-2 c =
-    let l = c .before .loop in
-    let s = c .before .before .before .args .s .now in
+    let at-loop = c .before in
+    let start = at-loop .before .before in
+    let l = at-loop .loop in
+    let s = start .args .s .now in
     cut-stop s (l .i) (l .v) (l .inv .0) (ap isDigit (List·getD-eq-default s 0 (c .loop-test .left))) ∙ l .inv .1
 
 pub run-on-spec : {M : Type 1} → statement M

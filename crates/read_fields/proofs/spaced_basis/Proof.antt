@@ -19,7 +19,10 @@ enum-told c = search needs
 
 returns : tie.Need-returns
 unfolding fields.spacedBasis
-returns c = after-missing basisField (byteAt (c .before .before .before .before .args .s .now) (c .before .before .before .before .args .at) 32) (basisAt (c .before .before .before .before .args .s .now)) (sym (c .before .before .byte .ensures) ∙ c .enum-told .given .1)
+returns c =
+    let after-byte = c .before .before in
+    let start = after-byte .before .before in
+    after-missing basisField (byteAt (start .args .s .now) (start .args .at) 32) (basisAt (start .args .s .now)) (sym (after-byte .byte .ensures) ∙ c .enum-told .given .1)
 
 basis-at-requires : tie.Need-basis-at-requires
 basis-at-requires c κs = search needs
@@ -27,8 +30,11 @@ basis-at-requires c κs = search needs
 returns-2 : tie.Need-returns-2
 unfolding fields.spacedBasis
 returns-2 c =
+    let after-p = c .before .before in
+    let after-byte = after-p .before .before in
+    let start = after-byte .before .before in
     c .basis-at .ensures
-    ∙ after-at basisField (byteAt (c .before .before .before .before .before .before .args .s .now) (c .before .before .before .before .before .before .args .at) 32) (basisAt (c .before .before .before .before .before .before .args .s .now)) (c .before .before .p .given .0 .0) (sym (c .before .before .before .before .byte .ensures) ∙ c .before .before .p .given .1)
+    ∙ after-at basisField (byteAt (start .args .s .now) (start .args .at) 32) (basisAt (start .args .s .now)) (after-p .p .given .0 .0) (sym (after-byte .byte .ensures) ∙ after-p .p .given .1)
 
 pub spaced-basis-spec : {M : Type 1} → statement M
 spaced-basis-spec =

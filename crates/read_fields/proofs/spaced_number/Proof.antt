@@ -19,7 +19,10 @@ enum-told c = search needs
 
 returns : tie.Need-returns
 unfolding fields.spacedNumber
-returns c = after-missing numberField (byteAt (c .before .before .before .before .args .s .now) (c .before .before .before .before .args .at) 32) (numberAt (c .before .before .before .before .args .s .now)) (sym (c .before .before .byte .ensures) ∙ c .enum-told .given .1)
+returns c =
+    let after-byte = c .before .before in
+    let start = after-byte .before .before in
+    after-missing numberField (byteAt (start .args .s .now) (start .args .at) 32) (numberAt (start .args .s .now)) (sym (after-byte .byte .ensures) ∙ c .enum-told .given .1)
 
 number-requires : tie.Need-number-requires
 number-requires c κs = search needs
@@ -27,8 +30,11 @@ number-requires c κs = search needs
 returns-2 : tie.Need-returns-2
 unfolding fields.spacedNumber
 returns-2 c =
+    let after-p = c .before .before in
+    let after-byte = after-p .before .before in
+    let start = after-byte .before .before in
     c .number .ensures
-    ∙ after-at numberField (byteAt (c .before .before .before .before .before .before .args .s .now) (c .before .before .before .before .before .before .args .at) 32) (numberAt (c .before .before .before .before .before .before .args .s .now)) (c .before .before .p .given .0 .0) (sym (c .before .before .before .before .byte .ensures) ∙ c .before .before .p .given .1)
+    ∙ after-at numberField (byteAt (start .args .s .now) (start .args .at) 32) (numberAt (start .args .s .now)) (after-p .p .given .0 .0) (sym (after-byte .byte .ensures) ∙ after-p .p .given .1)
 
 pub spaced-number-spec : {M : Type 1} → statement M
 spaced-number-spec =
