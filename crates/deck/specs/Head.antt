@@ -28,6 +28,7 @@ use Rattle.ranges.specs.RangedIsInside.{losses-inside}
 use Rattle.rules.specs.declared.Verdict.the-variants.{Accepted}
 use Rattle.deck.specs.Turns.{line-got, line-malformed}
 use Rattle.deck.specs.FirstLine.{headRefused, headTaken, headLined, headStep, rowsAfter}
+use Rattle.deck.specs.declared.HeadStep.{HeadStep}
 
 -- 1, and what comes after it.
 
@@ -63,6 +64,9 @@ rows-after-head s = by-length (ltb 8192 (length s))
         rowsAfter s (x .next) x ≡ refuse z TooLong (onLine (lineAt s 0) (Form 1) λ l next. andThen (headed l) λ h. linesFrom (length s) s h next)
     by-length true = refl
     by-length false = by-line (lineAt s 0)
+
+pub rows-after-told : (s : List ℕ) (x : HeadStep) → x ≡ headStep s 0 → rowsAfter s (x .next) x ≡ reading s
+rows-after-told s x e = ap (λ (x : HeadStep). rowsAfter s (x .next) x) e ∙ rows-after-head s
 
 -- The first line, which stands at a place.
 

@@ -6,3 +6,4 @@ pub mod Turns
 pub mod Rows
 pub mod FirstLine
 pub mod Head
+pub mod Checks

@@ -37,6 +37,8 @@ use Rattle.read_fields.specs.Answers.{stepOf}
 use Rattle.line_rules.specs.Tried.{Tables, unitHigh, basisCode}
 use Rattle.line_rules.specs.Kept.{Kept}
 use Rattle.line_rules.specs.TablesKept.{noTables, kept-started}
+use Rattle.line_rules.specs.Totalled.{noTotals, sourceTotalled, deliveryTotalled, Totalled, totalled-none, totalled-source, totalled-delivery}
+use Rattle.line_rules.specs.declared.Totals.{Totals}
 use Rattle.deck.specs.Answers.{nowhere, bytesOf, Holds, Placed, Scanned, refusedScan}
 use Rattle.deck.specs.Steps.{endVerdict}
 use Rattle.deck.specs.Turns.{line-got, line-malformed, line-none, SourceTurn, DeliveryTurn, DirectTakes}
@@ -84,27 +86,35 @@ module _ (s : List ℕ) where
             go true b = lt-ltb i (n + 1) (omega (arith, ltb-true i n b))
             go false b = le-ltb i (n + 1) (let q : i ≡ n → ⊥ = k in omega (arith, ltb-false i n b))
 
--- What the loop keeps.
+-- What a loop over the lines keeps: the hour so far, with its tables and its totals, from which reading goes on.
 
-pub record Rows (s : List ℕ) (o : Outcome Hour) (h : Hour) (t : Tables) (ps qs : List Place) (at : ℕ) : Type 0 where
+pub record Reads (s : List ℕ) (o : Outcome Hour) (h : Hour) (t : Tables) (u : Totals) (at : ℕ) : Type 0 where
   pub going : Going s h at o
   pub kept : Kept h t
+  pub totalled : Totalled (h .sources) (h .nsources) (h .deliveries) (h .ndeliveries) u
+
+pub record Rows (s : List ℕ) (o : Outcome Hour) (h : Hour) (t : Tables) (u : Totals) (ps qs : List Place) (at : ℕ) : Type 0 where
+  pub reads : Reads s o h t u at
   pub sources : Placed s (sourcePartOf (accepted h)) ps
   pub deliveries : Placed s (deliveryPartOf (accepted h)) qs
 
-rows-start : (s : List ℕ) (losses from : ℕ) → Rows s (linesFrom (length s) s (started losses) from) (started losses) noTables (replicate 32 nowhere) (replicate 32 nowhere) from
+pub reads-start : (s : List ℕ) (losses from : ℕ) → Reads s (linesFrom (length s) s (started losses) from) (started losses) noTables noTotals from
+unfolding record-of.started
+reads-start s losses from =
+    record { going = record { fuel = length s; enough = omega arith; same = refl }; kept = kept-started losses; totalled = totalled-none _ _ }
+
+rows-start : (s : List ℕ) (losses from : ℕ) → Rows s (linesFrom (length s) s (started losses) from) (started losses) noTables noTotals (replicate 32 nowhere) (replicate 32 nowhere) from
 unfolding record-of.started
 rows-start s losses from =
     record {
-      going = record { fuel = length s; enough = omega arith; same = refl };
-      kept = kept-started losses;
+      reads = reads-start s losses from;
       sources = placed-none s _ (λ i. rw (le-ltb i 0 (omega arith)));
       deliveries = placed-none s _ (λ i. rw (le-ltb i 0 (omega arith)));
     }
 
 -- the loop's start, with the hour that an H line starts
 pub rows-started : (s : List ℕ) (losses from : ℕ) (h : Hour) → h ≡ started losses
-    → Rows s (linesFrom (length s) s (started losses) from) h noTables (replicate 32 nowhere) (replicate 32 nowhere) from
+    → Rows s (linesFrom (length s) s (started losses) from) h noTables noTotals (replicate 32 nowhere) (replicate 32 nowhere) from
 rows-started s losses from h e = rw e (rows-start s losses from)
 
 scanned-refused : (s : List ℕ) (o : Outcome Hour) (r : Refusal) → o ≡ refused r → Scanned s o (refusedScan r)
@@ -113,46 +123,49 @@ scanned-refused s o r e = rw e (record { answer = refl; sources = placed-none s 
 pub answer-refused : (s : List ℕ) (o : Outcome Hour) (r : Refusal) (x : ScannedDeck) → x ≡ refusedScan r → o ≡ refused r → Scanned s o x
 answer-refused s o r x e k = subst (Scanned s o) (sym e) (scanned-refused s o r k)
 
-module _ (s : List ℕ) (o : Outcome Hour) (h : Hour) (t : Tables) (ps qs : List Place) (at : ℕ) (w : Rows s o h t ps qs at) where
-  -- One entry more.
+-- the sources and the deliveries before the one that is set
+set-before : {A : Type 0} (xs : List A) (n : ℕ) (x default : A) (i : ℕ) → i < n → getD (set xs n x) i default ≡ getD xs i default
+set-before xs n x default i l = getD-set-other xs n i x default (λ e. omega arith)
 
-  pub rows-source : (r : SourceStep) → SourceTurn s h t at r → r .verdict ≡ Accepted → (high : ℕ) → high ≡ unitHigh (r .entry .plant)
-      → Rows s o (withSource h (r .entry))
-      (record { slo = set (t .slo) (h .nsources) (r .key .lo); shi = set (t .shi) (h .nsources) (r .key .hi); tlo = t .tlo; thi = t .thi; high = set (t .high) (h .nsources) high; based = t .based; percents = t .percents })
-      (set ps (h .nsources) (r .place)) qs (r .next)
-  rows-source r e v high he =
-      let k = e .takes v in
+module _ (s : List ℕ) (o : Outcome Hour) (h : Hour) (t : Tables) (u : Totals) (at : ℕ) (w : Reads s o h t u at) where
+  -- One entry more, set in the tables and added to the totals.
+
+  pub reads-source : (r : SourceStep) → SourceTurn s h t at r → r .verdict ≡ Accepted → (slo shi high : List ℕ) (v : Totals) → slo ≡ set (t .slo) (h .nsources) (r .key .lo)
+      → shi ≡ set (t .shi) (h .nsources) (r .key .hi) → high ≡ set (t .high) (h .nsources) (unitHigh (r .entry .plant)) → v ≡ sourceTotalled u (r .entry .plant) → v .generated ≤ u .generated + 4294967296
+      → Reads s o (withSource h (r .entry))
+      (record { slo = slo; shi = shi; tlo = t .tlo; thi = t .thi; high = high; based = t .based; percents = t .percents }) v (r .next)
+  reads-source r e a slo shi high v le hie he ve most =
+      let k = e .takes a in
       record {
         going = k .goes o (w .going);
-        kept = rw (he, k .keyed) (k .kept);
-        sources = placed-more s (λ (x : Source). x .label) noSource (h .sources) (h .nsources) (r .entry) ps (r .place) (k .room) (w .kept .sources-size) (k .holds) (w .sources);
-        deliveries = w .deliveries;
+        kept = rw (le, hie, he, k .keyed) (k .kept);
+        totalled = totalled-source (h .sources) (h .nsources) (h .deliveries) (h .ndeliveries) u (w .totalled) (set (h .sources) (h .nsources) (r .entry)) (r .entry) v
+            (set-before (h .sources) (h .nsources) (r .entry) noSource) (getD-set-same (h .sources) (h .nsources) (r .entry) noSource (omega (arith, k .room, w .kept .sources-size))) ve most;
       }
 
-  pub rows-delivery : (r : DeliveryStep) → DeliveryTurn s h t at r → r .verdict ≡ Accepted
-      → Rows s o (withDelivery h (r .entry))
-      (record { slo = t .slo; shi = t .shi; tlo = set (t .tlo) (h .ndeliveries) (r .key .lo); thi = set (t .thi) (h .ndeliveries) (r .key .hi); high = t .high; based = t .based; percents = t .percents })
-      ps (set qs (h .ndeliveries) (r .place)) (r .next)
-  rows-delivery r e v =
-      let k = e .takes v in
+  pub reads-delivery : (r : DeliveryStep) → DeliveryTurn s h t at r → r .verdict ≡ Accepted → (tlo thi : List ℕ) (v : Totals) → tlo ≡ set (t .tlo) (h .ndeliveries) (r .key .lo)
+      → thi ≡ set (t .thi) (h .ndeliveries) (r .key .hi) → v ≡ deliveryTotalled u (r .entry) → v .delivered ≤ u .delivered + 4294967296
+      → Reads s o (withDelivery h (r .entry))
+      (record { slo = t .slo; shi = t .shi; tlo = tlo; thi = thi; high = t .high; based = t .based; percents = t .percents }) v (r .next)
+  reads-delivery r e a tlo thi v le hie ve most =
+      let k = e .takes a in
       record {
         going = k .goes o (w .going);
-        kept = rw (k .keyed) (k .kept);
-        sources = w .sources;
-        deliveries = placed-more s (λ (x : Delivery). x .label) noDelivery (h .deliveries) (h .ndeliveries) (r .entry) qs (r .place) (k .room) (w .kept .deliveries-size) (k .holds) (w .deliveries);
+        kept = rw (le, hie, k .keyed) (k .kept);
+        totalled = totalled-delivery (h .sources) (h .nsources) (h .deliveries) (h .ndeliveries) u (w .totalled) (set (h .deliveries) (h .ndeliveries) (r .entry)) (r .entry) v
+            (set-before (h .deliveries) (h .ndeliveries) (r .entry) noDelivery) (getD-set-same (h .deliveries) (h .ndeliveries) (r .entry) noDelivery (omega (arith, k .room, w .kept .deliveries-size))) ve most;
       }
 
-  pub rows-direct : (y : Direct) (next : ℕ) → DirectTakes s h t at y next → (code : ℕ) → code ≡ basisCode (y .basis)
-      → Rows s o (withDirect h y)
-      (record { slo = t .slo; shi = t .shi; tlo = t .tlo; thi = t .thi; high = t .high; based = set (t .based) (y .source) code; percents = set (t .percents) (y .source) (getD (t .percents) (y .source) 0 + y .percent) })
-      ps qs next
-  rows-direct y next k code ce = record { going = k .goes o (w .going); kept = rw ce (k .kept); sources = w .sources; deliveries = w .deliveries }
+  pub reads-direct : (y : Direct) (next : ℕ) → DirectTakes s h t at y next → (based percents : List ℕ) → based ≡ set (t .based) (y .source) (basisCode (y .basis))
+      → percents ≡ set (t .percents) (y .source) (getD (t .percents) (y .source) 0 + y .percent)
+      → Reads s o (withDirect h y) (record { slo = t .slo; shi = t .shi; tlo = t .tlo; thi = t .thi; high = t .high; based = based; percents = percents }) u next
+  reads-direct y next k based percents be pe = record { going = k .goes o (w .going); kept = rw (be, pe) (k .kept); totalled = w .totalled }
 
   -- Ways out.
 
-  pub rows-ended : length s ≤ at → o ≡ refused (Form (lineNumber h))
+  pub reads-ended : length s ≤ at → o ≡ refused (Form (lineNumber h))
   unfolding lines.letterOf
-  rows-ended le = goes-malformed s h at o (w .going) (line-none s at (rw (List·getD-eq-default s 0 le)))
+  reads-ended le = goes-malformed s h at o (w .going) (line-none s at (rw (List·getD-eq-default s 0 le)))
 
   -- at E: it, or what stands after it, refuses the deck, or the hour is whole
   end-refuses : byte s at ≡ 69 → (r : Refusal) → endVerdict (length s) (lineNumber h) (stepOf (byteAt s (at + 1) 10)) ≡ Refused r → o ≡ refused r
@@ -197,6 +210,40 @@ module _ (s : List ℕ) (o : Outcome Hour) (h : Hour) (t : Tables) (ps qs : List
 
     pub end-finished : v ≡ Accepted → o ≡ finished h
     end-finished k = end-finishes be (rw (← ne) (sym ve ∙ k))
+
+-- the same with places
+module _ (s : List ℕ) (o : Outcome Hour) (h : Hour) (t : Tables) (u : Totals) (ps qs : List Place) (at : ℕ) (w : Rows s o h t u ps qs at) where
+  pub rows-source : (r : SourceStep) → SourceTurn s h t at r → r .verdict ≡ Accepted → (slo shi high : List ℕ) (v : Totals) → slo ≡ set (t .slo) (h .nsources) (r .key .lo)
+      → shi ≡ set (t .shi) (h .nsources) (r .key .hi) → high ≡ set (t .high) (h .nsources) (unitHigh (r .entry .plant)) → v ≡ sourceTotalled u (r .entry .plant) → v .generated ≤ u .generated + 4294967296
+      → Rows s o (withSource h (r .entry))
+      (record { slo = slo; shi = shi; tlo = t .tlo; thi = t .thi; high = high; based = t .based; percents = t .percents }) v
+      (set ps (h .nsources) (r .place)) qs (r .next)
+  rows-source r e a slo shi high v le hie he ve most =
+      let k = e .takes a in
+      record {
+        reads = reads-source s o h t u at (w .reads) r e a slo shi high v le hie he ve most;
+        sources = placed-more s (λ (x : Source). x .label) noSource (h .sources) (h .nsources) (r .entry) ps (r .place) (k .room) (w .reads .kept .sources-size) (k .holds) (w .sources);
+        deliveries = w .deliveries;
+      }
+
+  pub rows-delivery : (r : DeliveryStep) → DeliveryTurn s h t at r → r .verdict ≡ Accepted → (tlo thi : List ℕ) (v : Totals) → tlo ≡ set (t .tlo) (h .ndeliveries) (r .key .lo)
+      → thi ≡ set (t .thi) (h .ndeliveries) (r .key .hi) → v ≡ deliveryTotalled u (r .entry) → v .delivered ≤ u .delivered + 4294967296
+      → Rows s o (withDelivery h (r .entry))
+      (record { slo = t .slo; shi = t .shi; tlo = tlo; thi = thi; high = t .high; based = t .based; percents = t .percents }) v
+      ps (set qs (h .ndeliveries) (r .place)) (r .next)
+  rows-delivery r e a tlo thi v le hie ve most =
+      let k = e .takes a in
+      record {
+        reads = reads-delivery s o h t u at (w .reads) r e a tlo thi v le hie ve most;
+        sources = w .sources;
+        deliveries = placed-more s (λ (x : Delivery). x .label) noDelivery (h .deliveries) (h .ndeliveries) (r .entry) qs (r .place) (k .room) (w .reads .kept .deliveries-size) (k .holds) (w .deliveries);
+      }
+
+  pub rows-direct : (y : Direct) (next : ℕ) → DirectTakes s h t at y next → (based percents : List ℕ) → based ≡ set (t .based) (y .source) (basisCode (y .basis))
+      → percents ≡ set (t .percents) (y .source) (getD (t .percents) (y .source) 0 + y .percent)
+      → Rows s o (withDirect h y) (record { slo = t .slo; shi = t .shi; tlo = t .tlo; thi = t .thi; high = t .high; based = based; percents = percents }) u ps qs next
+  rows-direct y next k based percents be pe =
+      record { reads = reads-direct s o h t u at (w .reads) y next k based percents be pe; sources = w .sources; deliveries = w .deliveries }
 
   pub rows-accepted : o ≡ accepted h → Scanned s o (record { verdict = Accepted; hour = h; sources = ps; deliveries = qs })
   rows-accepted e = rw e (record { answer = refl; sources = w .sources; deliveries = w .deliveries })

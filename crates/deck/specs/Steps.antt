@@ -36,6 +36,8 @@ use Rattle.line_rules.specs.Keys.{keyOf}
 use Rattle.line_rules.specs.Tried.{entryOf, nextLine, sourceTried, deliveryTried, Tables, directTried}
 use Rattle.line_rules.specs.declared.Counts.{Counts}
 use Rattle.line_rules.specs.declared.Entry.the-variants.{Unnamed}
+use Rattle.deck.specs.declared.SourceLine.{SourceLine}
+use Rattle.deck.specs.declared.SourceLine.the-variants.{Read as SourceRead, Malformed as NoSource}
 use Rattle.deck.specs.declared.SourceStep.{SourceStep}
 use Rattle.deck.specs.declared.DeliveryStep.{DeliveryStep}
 use Rattle.deck.specs.declared.DirectStep.{DirectStep}
@@ -56,31 +58,51 @@ sourceStep s n lo hi inRange plant p next =
       next = next;
     }
 
-module _ (s : List ℕ) (n : Counts) (lo hi : List ℕ) where
-  -- 2 or 3 where no unit is made, whatever stands for it
-  abbrev pub judgedStep : JudgedUnit → fields.Place → ℕ → SourceStep
-  judgedStep (Inside u) p next = sourceStep s n lo hi true (IsUnit u) p next
-  judgedStep Outside p next = sourceStep s n lo hi false (IsFixed 0) p next
+-- what its line tells of it
+abbrev pub judgedSource : JudgedUnit → ℕ → ℕ → ℕ → SourceLine
+judgedSource (Inside u) from upto next = SourceRead true (IsUnit u) from upto next
+judgedSource Outside from upto next = SourceRead false (IsFixed 0) from upto next
 
-  abbrev pub unitStep : UnitLine → SourceStep
-  unitStep (UnitRead x from upto next) = judgedStep (judged x) (record { from = from; upto = upto }) next
-  unitStep NoUnit = sourceRefused (Form (nextLine n))
+abbrev pub unitSource : UnitLine → SourceLine
+unitSource (UnitRead x from upto next) = judgedSource (judged x) from upto next
+unitSource NoUnit = NoSource
 
-  abbrev pub purchaseStep : PurchaseLine → SourceStep
-  purchaseStep (PurchaseRead g rate from upto next) = sourceStep s n lo hi (plantInside (IsPurchase g rate)) (IsPurchase g rate) (record { from = from; upto = upto }) next
-  purchaseStep NoPurchase = sourceRefused (Form (nextLine n))
+abbrev pub purchaseSource : PurchaseLine → SourceLine
+purchaseSource (PurchaseRead g rate from upto next) = SourceRead (plantInside (IsPurchase g rate)) (IsPurchase g rate) from upto next
+purchaseSource NoPurchase = NoSource
 
-  abbrev pub fixedStep : FixedLine → SourceStep
-  fixedStep (FixedRead g from upto next) = sourceStep s n lo hi (plantInside (IsFixed g)) (IsFixed g) (record { from = from; upto = upto }) next
-  fixedStep NoFixed = sourceRefused (Form (nextLine n))
+abbrev pub fixedSource : FixedLine → SourceLine
+fixedSource (FixedRead g from upto next) = SourceRead (plantInside (IsFixed g)) (IsFixed g) from upto next
+fixedSource NoFixed = NoSource
 
 -- by its letter, U, P or F; any other is no source line
+abbrev pub plantFrom : List ℕ → ℕ → ℕ → SourceLine
+plantFrom s at letter =
+    if eqb letter 85 then unitSource (unitLine (placesAt s at U)) else
+    if eqb letter 80 then purchaseSource (purchaseLine (placesAt s at P)) else
+    if eqb letter 70 then fixedSource (fixedLine (placesAt s at F)) else
+    NoSource
+
+module _ (s : List ℕ) (n : Counts) (lo hi : List ℕ) where
+  abbrev pub lineStep : SourceLine → SourceStep
+  lineStep (SourceRead inRange plant from upto next) = sourceStep s n lo hi inRange plant (record { from = from; upto = upto }) next
+  lineStep NoSource = sourceRefused (Form (nextLine n))
+
+  -- 2 or 3 where no unit is made, whatever stands for it
+  abbrev pub judgedStep : JudgedUnit → fields.Place → ℕ → SourceStep
+  judgedStep x p next = lineStep (judgedSource x (p .from) (p .upto) next)
+
+  abbrev pub unitStep : UnitLine → SourceStep
+  unitStep x = lineStep (unitSource x)
+
+  abbrev pub purchaseStep : PurchaseLine → SourceStep
+  purchaseStep x = lineStep (purchaseSource x)
+
+  abbrev pub fixedStep : FixedLine → SourceStep
+  fixedStep x = lineStep (fixedSource x)
+
 abbrev pub sourceFrom : List ℕ → ℕ → ℕ → Counts → List ℕ → List ℕ → SourceStep
-sourceFrom s at letter n lo hi =
-    if eqb letter 85 then unitStep s n lo hi (unitLine (placesAt s at U)) else
-    if eqb letter 80 then purchaseStep s n lo hi (purchaseLine (placesAt s at P)) else
-    if eqb letter 70 then fixedStep s n lo hi (fixedLine (placesAt s at F)) else
-    sourceRefused (Form (nextLine n))
+sourceFrom s at letter n lo hi = lineStep s n lo hi (plantFrom s at letter)
 
 -- T lines.
 

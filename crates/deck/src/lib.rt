@@ -17,10 +17,11 @@ ghost use Rattle.line_rules.specs.Keys.{keyOf};
 ghost use Rattle.line_rules.specs.Tried.{Few};
 ghost use Rattle.deck.specs.Answers.{readAnswer, bytesOf, refusedScan, Scanned};
 ghost use Rattle.deck.specs.FirstLine.{headRefused, headStep, readerAt, rowsAfter};
-ghost use Rattle.deck.specs.Steps.{sourceStep, sourceRefused, unitStep, purchaseStep, fixedStep, sourceFrom, deliveryRefused, deliveryStep, directStep, endVerdict};
+ghost use Rattle.deck.specs.Steps.{unitSource, purchaseSource, fixedSource, plantFrom, sourceFrom, sourceRefused, deliveryRefused, deliveryStep, directStep, endVerdict};
 use line_rules::Counts;
 use line_rules::Entry;
 use line_rules::Key;
+use line_rules::Totals;
 use ranges::JudgedUnit;
 use read_fields::Step;
 use read_lines::DeliveryLine;
@@ -70,6 +71,12 @@ struct HeadStep {
     verdict: Verdict,
     losses: u32,
     next: usize,
+}
+
+// A source line: whether its numbers are in their ranges, the plant that they make, where its label's own bytes start and end, and the place after it.
+enum SourceLine {
+    Read(bool, Plant, usize, usize, usize),
+    Malformed,
 }
 
 // A line at hand: the verdict on it, and for one that is taken its entry, the key and the place of its label, and the place after the line.
@@ -179,74 +186,58 @@ fn source_refused(r: Refusal) -> SourceStep
     }
 }
 
-// A source with its label. Where it is not in its ranges, 2 or 3 refuses it, whatever the plant.
-fn try_source(
-    s: &[u8],
-    n: Counts,
-    ranged: bool,
-    plant: Plant,
-    from: usize,
-    upto: usize,
-    next: usize,
-    lo: &[u64; 32],
-    hi: &[u64; 32],
-) -> SourceStep
-    requires { ⌜ Few n × LabelStands (now s) (record { from = from; upto = upto }) ⌝ }
-    ensures { λ r. ⌜ r ≡ sourceStep (now (s .entry)) n (now (lo .entry)) (now (hi .entry)) ranged plant (record { from = from; upto = upto }) next ⌝ }
-{
-    let label = read_fields::label_at(&s[from..upto]);
-    let key = line_rules::key_of(label);
-    let verdict = line_rules::take_source(n, ranged, plant, key, lo, hi);
-    SourceStep {
-        verdict,
-        entry: Source { plant, label },
-        key,
-        place: Place { from, upto },
-        next,
-    }
-}
-
-fn unit_at(s: &[u8], at: usize, n: Counts, lo: &[u64; 32], hi: &[u64; 32]) -> SourceStep
-    requires { ⌜ Few n ⌝ }
-    ensures { λ r. ⌜ r ≡ unitStep (now (s .entry)) n (now (lo .entry)) (now (hi .entry)) (unitLine (placesAt (now (s .entry)) at U)) ⌝ }
+// A unit only where its numbers are in their ranges; where they are not, 2 or 3 refuses the line, whatever stands for it.
+fn unit_at(s: &[u8], at: usize) -> SourceLine
+    ensures { λ r. ⌜ r ≡ unitSource (unitLine (placesAt (now (s .entry)) at U)) ⌝ }
 {
     let UnitLine::Read(x, from, upto, next) = read_lines::unit(s, at) else {
-        let line = line_rules::next_line(n);
-        return source_refused(Refusal::Form(line));
+        return SourceLine::Malformed;
     };
     let JudgedUnit::Inside(u) = ranges::judge_unit(x) else {
-        return try_source(s, n, false, Plant::Fixed { g: 0 }, from, upto, next, lo, hi);
+        return SourceLine::Read(false, Plant::Fixed { g: 0 }, from, upto, next);
     };
-    try_source(s, n, true, Plant::Unit(u), from, upto, next, lo, hi)
+    SourceLine::Read(true, Plant::Unit(u), from, upto, next)
 }
 
-fn purchase_at(s: &[u8], at: usize, n: Counts, lo: &[u64; 32], hi: &[u64; 32]) -> SourceStep
-    requires { ⌜ Few n ⌝ }
-    ensures { λ r. ⌜ r ≡ purchaseStep (now (s .entry)) n (now (lo .entry)) (now (hi .entry)) (purchaseLine (placesAt (now (s .entry)) at P)) ⌝ }
+fn purchase_at(s: &[u8], at: usize) -> SourceLine
+    ensures { λ r. ⌜ r ≡ purchaseSource (purchaseLine (placesAt (now (s .entry)) at P)) ⌝ }
 {
     let PurchaseLine::Read(g, rate, from, upto, next) = read_lines::purchase(s, at) else {
-        let line = line_rules::next_line(n);
-        return source_refused(Refusal::Form(line));
+        return SourceLine::Malformed;
     };
     let plant = Plant::Purchase { g, rate };
     let ranged = ranges::plant_in_range(plant);
-    try_source(s, n, ranged, plant, from, upto, next, lo, hi)
+    SourceLine::Read(ranged, plant, from, upto, next)
 }
 
-fn fixed_at(s: &[u8], at: usize, n: Counts, lo: &[u64; 32], hi: &[u64; 32]) -> SourceStep
-    requires { ⌜ Few n ⌝ }
-    ensures { λ r. ⌜ r ≡ fixedStep (now (s .entry)) n (now (lo .entry)) (now (hi .entry)) (fixedLine (placesAt (now (s .entry)) at F)) ⌝ }
+fn fixed_at(s: &[u8], at: usize) -> SourceLine
+    ensures { λ r. ⌜ r ≡ fixedSource (fixedLine (placesAt (now (s .entry)) at F)) ⌝ }
 {
     let FixedLine::Read(g, from, upto, next) = read_lines::fixed(s, at) else {
-        let line = line_rules::next_line(n);
-        return source_refused(Refusal::Form(line));
+        return SourceLine::Malformed;
     };
     let plant = Plant::Fixed { g };
     let ranged = ranges::plant_in_range(plant);
-    try_source(s, n, ranged, plant, from, upto, next, lo, hi)
+    SourceLine::Read(ranged, plant, from, upto, next)
 }
 
-// A source line by its letter; a line of no letter is refused.
+// By the letter; a line of no letter is malformed.
+fn plant_at(s: &[u8], at: usize, letter: u8) -> SourceLine
+    ensures { λ r. ⌜ r ≡ plantFrom (now (s .entry)) at letter ⌝ }
+{
+    if letter == b'U' {
+        return unit_at(s, at);
+    }
+    if letter == b'P' {
+        return purchase_at(s, at);
+    }
+    if letter == b'F' {
+        return fixed_at(s, at);
+    }
+    SourceLine::Malformed
+}
+
+// A source line, tried with its label.
 fn source_at(
     s: &[u8],
     at: usize,
@@ -258,17 +249,20 @@ fn source_at(
     requires { ⌜ Few n ⌝ }
     ensures { λ r. ⌜ r ≡ sourceFrom (now (s .entry)) at letter n (now (lo .entry)) (now (hi .entry)) ⌝ }
 {
-    if letter == b'U' {
-        return unit_at(s, at, n, lo, hi);
+    let SourceLine::Read(ranged, plant, from, upto, next) = plant_at(s, at, letter) else {
+        let line = line_rules::next_line(n);
+        return source_refused(Refusal::Form(line));
+    };
+    let label = read_fields::label_at(&s[from..upto]);
+    let key = line_rules::key_of(label);
+    let verdict = line_rules::take_source(n, ranged, plant, key, lo, hi);
+    SourceStep {
+        verdict,
+        entry: Source { plant, label },
+        key,
+        place: Place { from, upto },
+        next,
     }
-    if letter == b'P' {
-        return purchase_at(s, at, n, lo, hi);
-    }
-    if letter == b'F' {
-        return fixed_at(s, at, n, lo, hi);
-    }
-    let line = line_rules::next_line(n);
-    source_refused(Refusal::Form(line))
 }
 
 // A T line, from the place after its letter.
@@ -376,7 +370,7 @@ fn end_at(s: &[u8], at: usize, line: usize) -> Verdict
     Verdict::Accepted
 }
 
-// The lines after the first: the hour grows entry by entry, with the tables of its labels, bases and percents beside it.
+// The lines after the first: the hour grows entry by entry, with the tables and the totals of its entries beside it.
 fn rows(s: &[u8], losses: u32, from: usize) -> ScannedDeck
     ensures { λ r. ⌜ Scanned (now (s .entry)) (linesFrom (length (now (s .entry))) (now (s .entry)) (started losses) from) r ⌝ }
 {
@@ -391,6 +385,11 @@ fn rows(s: &[u8], losses: u32, from: usize) -> ScannedDeck
     let mut high = [0u32; 32];
     let mut based = [0u64; 32];
     let mut percents = [0u32; 32];
+    let mut totals = Totals {
+        generated: 0,
+        delivered: 0,
+        numbered: false,
+    };
     let mut at = from;
     while at < s.len() {
         let letter = s[at];
@@ -418,10 +417,7 @@ fn rows(s: &[u8], losses: u32, from: usize) -> ScannedDeck
                     return refused(r);
                 }
                 Entry::Named(d) => {
-                    let i = d.source;
-                    let b = d.basis;
-                    based[i] = line_rules::basis_code(b);
-                    percents[i] = percents[i] + d.percent;
+                    line_rules::keep_direct(d, &mut based, &mut percents);
                     let m = h.ndirects;
                     h.directs[m] = d;
                     h.ndirects = m + 1;
@@ -436,11 +432,11 @@ fn rows(s: &[u8], losses: u32, from: usize) -> ScannedDeck
             }
             let m = h.ndeliveries;
             let k = x.key;
-            tlo[m] = k.lo;
-            thi[m] = k.hi;
+            line_rules::keep_key(m, k, &mut tlo, &mut thi);
             let place = x.place;
             deliveries[m] = place;
             let e = x.entry;
+            totals = line_rules::add_delivery(totals, e);
             h.deliveries[m] = e;
             h.ndeliveries = m + 1;
             at = x.next;
@@ -450,7 +446,7 @@ fn rows(s: &[u8], losses: u32, from: usize) -> ScannedDeck
             if let Verdict::Refused(r) = v {
                 return refused(r);
             }
-            let w = line_rules::finish(h);
+            let w = line_rules::finish(n, h.losses, totals);
             if let Verdict::Refused(r) = w {
                 return refused(r);
             }
@@ -468,11 +464,11 @@ fn rows(s: &[u8], losses: u32, from: usize) -> ScannedDeck
             }
             let m = h.nsources;
             let k = x.key;
-            slo[m] = k.lo;
-            shi[m] = k.hi;
+            line_rules::keep_key(m, k, &mut slo, &mut shi);
             let e = x.entry;
             let p = e.plant;
             high[m] = line_rules::unit_high(p);
+            totals = line_rules::add_source(totals, p);
             let place = x.place;
             sources[m] = place;
             h.sources[m] = e;
@@ -486,6 +482,94 @@ fn rows(s: &[u8], losses: u32, from: usize) -> ScannedDeck
         directs: h.ndirects,
     });
     refused(Refusal::Form(line))
+}
+
+// The same lines for their verdict alone: no entry is kept, and no hour is made.
+fn check_rows(s: &[u8], losses: u32, from: usize) -> Verdict
+    ensures { λ r. ⌜ r ≡ verdictOf (linesFrom (length (now (s .entry))) (now (s .entry)) (started losses) from) ⌝ }
+{
+    let mut n = Counts {
+        sources: 0,
+        deliveries: 0,
+        directs: 0,
+    };
+    let mut slo = [0u64; 32];
+    let mut shi = [0u64; 32];
+    let mut tlo = [0u64; 32];
+    let mut thi = [0u64; 32];
+    let mut high = [0u32; 32];
+    let mut based = [0u64; 32];
+    let mut percents = [0u32; 32];
+    let mut totals = Totals {
+        generated: 0,
+        delivered: 0,
+        numbered: false,
+    };
+    let mut at = from;
+    while at < s.len() {
+        let letter = s[at];
+        if letter == b'D' {
+            let x = direct_at(
+                s,
+                at + 1,
+                n,
+                &slo,
+                &shi,
+                &tlo,
+                &thi,
+                &high,
+                &based,
+                &percents,
+            );
+            let entry = x.entry;
+            match entry {
+                Entry::Unnamed(r) => {
+                    return Verdict::Refused(r);
+                }
+                Entry::Named(d) => {
+                    line_rules::keep_direct(d, &mut based, &mut percents);
+                    n.directs = n.directs + 1;
+                    at = x.next;
+                }
+            }
+        } else if letter == b'T' {
+            let x = delivery_at(s, at + 1, n, &tlo, &thi);
+            let v = x.verdict;
+            if let Verdict::Refused(r) = v {
+                return Verdict::Refused(r);
+            }
+            let k = x.key;
+            line_rules::keep_key(n.deliveries, k, &mut tlo, &mut thi);
+            let e = x.entry;
+            totals = line_rules::add_delivery(totals, e);
+            n.deliveries = n.deliveries + 1;
+            at = x.next;
+        } else if letter == b'E' {
+            let line = line_rules::next_line(n);
+            let v = end_at(s, at + 1, line);
+            if let Verdict::Refused(r) = v {
+                return Verdict::Refused(r);
+            }
+            return line_rules::finish(n, losses, totals);
+        } else {
+            let x = source_at(s, at + 1, letter, n, &slo, &shi);
+            let v = x.verdict;
+            if let Verdict::Refused(r) = v {
+                return Verdict::Refused(r);
+            }
+            let m = n.sources;
+            let k = x.key;
+            line_rules::keep_key(m, k, &mut slo, &mut shi);
+            let e = x.entry;
+            let p = e.plant;
+            high[m] = line_rules::unit_high(p);
+            totals = line_rules::add_source(totals, p);
+            n.sources = m + 1;
+            at = x.next;
+        }
+    }
+    let line = line_rules::next_line(n);
+    Verdict::Refused(Refusal::Form(line))
 }
 
 // 1, then the first line from its letter on.
@@ -583,8 +667,12 @@ pub fn read(s: &[u8]) -> ReadHour
 pub fn check_deck(s: &[u8]) -> Verdict
     ensures { λ r. ⌜ r ≡ verdictOf (reading (now (s .entry))) ⌝ }
 {
-    let x = scan(s);
-    x.verdict
+    let x = head_at(s, 0);
+    let v = x.verdict;
+    match v {
+        Verdict::Refused(r) => Verdict::Refused(r),
+        Verdict::Accepted => check_rows(s, x.losses, x.next),
+    }
 }
 
 pub fn part_at<'a>(s: &'a [u8], p: Place) -> &'a [u8]

@@ -7,6 +7,9 @@ ghost use denote.Ref.{ptr};
 ghost use Rattle.rules.specs.Calls.{sourcePart, deliveryPart};
 ghost use Rattle.label_places.specs.Places.{past, lineStart, labelStart, partStart, sourceStart, deliveryStart, placeCode, sourcePlace, deliveryPlace};
 
+// Above every length: a place as one number is its start times this, and its length.
+const LENGTHS: u64 = 4_294_967_296;
+
 // The place after the next b, from a place on; the deck's end where there is none.
 fn past_byte(s: &[u8], from: usize, b: u8) -> usize
     requires { ⌜ from ≤ length (now s) ⌝ }
@@ -93,7 +96,7 @@ fn label_place(s: &[u8], k: usize, n: usize) -> u64
         return 0;
     }
     let at = label_start(s, k);
-    at as u64 * 4294967296 + n as u64
+    at as u64 * LENGTHS + n as u64
 }
 
 // Where the own bytes of source i's label stand in the deck.

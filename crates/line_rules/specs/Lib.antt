@@ -8,3 +8,4 @@ pub mod Pairs
 pub mod Kept
 pub mod TriedIsTaken
 pub mod TablesKept
+pub mod Totalled

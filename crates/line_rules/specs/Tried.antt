@@ -1,14 +1,13 @@
 -- Document 01, "Numbers a call may give back", 2 to 9, tried on the counts of a growing hour and on the tables kept beside it.
 use mathlib.Core.Bool.{Bool, true, false, not, _&&_, _||_}
 use mathlib.Core.List.{List}
-use mathlib.Core.Option.{Option}
 use Prim.Native.Nat.{ℕ, _+_, _≤_}
 use lib.Dec.{leb, ltb, eqb}
 use lib.ListN.{getD}
-use Rattle.rules.specs.Words.{if_then_else_, sumTo, findTo}
+use Rattle.rules.specs.Words.{if_then_else_, sumTo}
 use Rattle.rules.specs.Refusals.{Outcome, accepted, refused, refuse, andThen}
 use Rattle.rules.specs.Units.{generation, levelled}
-use Rattle.rules.specs.Sequences.{noDelivery, toPlace}
+use Rattle.rules.specs.Sequences.{noDelivery}
 use Rattle.rules.specs.Record.{noSource}
 use Rattle.rules.specs.declared.Plant.{Plant}
 use Rattle.rules.specs.declared.Plant.the-variants.{Unit as U, Purchase as P, Fixed as F}
@@ -142,7 +141,3 @@ generatedTo sources n = sumTo (λ i. generation (getD sources i noSource .plant)
 
 abbrev pub deliveredTo : List Delivery → ℕ → ℕ
 deliveredTo deliveries n = sumTo (λ i. getD deliveries i noDelivery .mwh) n
-
--- the first of n deliveries with a number of its own
-abbrev pub placerTo : List Delivery → ℕ → Option ℕ
-placerTo deliveries n = findTo (λ i. not (toPlace (getD deliveries i noDelivery))) n

@@ -1,18 +1,21 @@
 // Document 01's rules 2 to 9 tried in their order on one more line of a growing hour, and 10 and 11 at its end.
 // Contracts cite rules' Reading, and of this crate Keys (labels as numbers) and Tried (2 to 9 on tables kept beside the hour). Internal: the deck's crates and the test of 15 call it.
 ghost use mathlib.Core.Path.{_≡_};
-ghost use mathlib.Core.Bool.{_&&_};
+ghost use mathlib.Core.Bool.{not, _&&_};
 ghost use Prim.Native.Nat.{_+_, _≤_, _<_};
 ghost use lib.Dec.{eqb};
+ghost use lib.ListN.{getD, set};
 ghost use Rattle.rules.specs.Answers.{verdictOf};
 ghost use Rattle.rules.specs.Units.{generation, ordered, levelled};
-ghost use Rattle.rules.specs.Reading.{generated, delivered, finished};
+ghost use Rattle.rules.specs.Reading.{generated, delivered};
 ghost use Rattle.line_rules.specs.Keys.{halfOf, keyOf, sameKey, keyFound};
-ghost use Rattle.line_rules.specs.Tried.{entryOf, countsOf, Few, nextLine, labelTried, sourceTried, deliveryTried, unitHigh, basisCode, codeLeaves, belowMost, pairFound, directTried, generatedTo, deliveredTo};
+ghost use Rattle.line_rules.specs.Tried.{entryOf, Few, nextLine, labelTried, sourceTried, deliveryTried, unitHigh, basisCode, codeLeaves, belowMost, pairFound, directTried, generatedTo, deliveredTo};
+ghost use Rattle.line_rules.specs.Totalled.{sourceTotalled, deliveryTotalled, finishedBy};
 use rules::Basis;
 use rules::Delivery;
 use rules::Direct;
 use rules::Hour;
+use rules::InputSequence;
 use rules::Label;
 use rules::Plant;
 use rules::Refusal;
@@ -58,13 +61,20 @@ pub struct DirectLine {
     pub delivery: Key,
 }
 
+// What 10 and 11 ask of the entries so far: the sums of what they generate and take, and whether a delivery has a number of its own.
+pub struct Totals {
+    pub generated: u64,
+    pub delivered: u64,
+    pub numbered: bool,
+}
+
 fn byte(b: u8) -> u64
     ensures { λ r. ⌜ (r ≡ b) × (r < 256) ⌝ }
 {
     b as u64
 }
 
-fn wide(x: u32) -> u64
+pub fn wide(x: u32) -> u64
     ensures { λ r. ⌜ (r ≡ x) × (r < 4294967296) ⌝ }
 {
     x as u64
@@ -274,6 +284,28 @@ pub fn basis_allowed(b: Basis, code: u64, most: u32) -> bool
     below_most(b, most)
 }
 
+// The tables after one entry more.
+
+pub fn keep_key(i: usize, k: Key, lo: &mut [u64; 32], hi: &mut [u64; 32])
+    requires { ⌜ i < 32 ⌝ }
+    ensures lo { λ _. ⌜ now (lo .exit) ≡ set (now (lo .entry)) i (k .lo) ⌝ }
+    ensures hi { λ _. ⌜ now (hi .exit) ≡ set (now (hi .entry)) i (k .hi) ⌝ }
+{
+    lo[i] = k.lo;
+    hi[i] = k.hi;
+}
+
+pub fn keep_direct(x: Direct, based: &mut [u64; 32], percents: &mut [u32; 32])
+    requires { ⌜ (x .source < 32) × (getD (now percents) (x .source) 0 + x .percent ≤ 100) ⌝ }
+    ensures based { λ _. ⌜ now (based .exit) ≡ set (now (based .entry)) (x .source) (basisCode (x .basis)) ⌝ }
+    ensures percents { λ _. ⌜ now (percents .exit) ≡ set (now (percents .entry)) (x .source) (getD (now (percents .entry)) (x .source) 0 + x .percent) ⌝ }
+{
+    let i = x.source;
+    let b = x.basis;
+    based[i] = basis_code(b);
+    percents[i] = percents[i] + x.percent;
+}
+
 // The unit and the delivery that a D line names (7).
 fn find_pair(
     n: Counts,
@@ -350,6 +382,38 @@ fn generation_of(p: Plant) -> u32
     }
 }
 
+// One source more.
+pub fn add_source(t: Totals, p: Plant) -> Totals
+    requires { ⌜ t .generated ≤ 137438953472 ⌝ }
+    ensures { λ r. ⌜ (r ≡ sourceTotalled t p) × (r .generated ≤ t .generated + 4294967296) ⌝ }
+{
+    Totals {
+        generated: t.generated + wide(generation_of(p)),
+        delivered: t.delivered,
+        numbered: t.numbered,
+    }
+}
+
+fn has_number(x: InputSequence) -> bool
+    ensures { λ r. ⌜ r ≡ not (eqb (x .0) 0) ⌝ }
+{
+    x.0 != 0
+}
+
+// One delivery more.
+pub fn add_delivery(t: Totals, x: Delivery) -> Totals
+    requires { ⌜ t .delivered ≤ 137438953472 ⌝ }
+    ensures { λ r. ⌜ (r ≡ deliveryTotalled t x) × (r .delivered ≤ t .delivered + 4294967296) ⌝ }
+{
+    let s = x.sequence;
+    let numbered = t.numbered | has_number(s);
+    Totals {
+        generated: t.generated,
+        delivered: t.delivered + wide(x.mwh),
+        numbered,
+    }
+}
+
 fn generated_by(sources: [Source; 32], n: usize) -> u64
     requires { ⌜ n ≤ 32 ⌝ }
     ensures { λ r. ⌜ (r ≡ generatedTo sources n) × (r ≤ 137438953472) ⌝ }
@@ -395,41 +459,19 @@ pub fn sum_delivered(h: Hour) -> u64
     delivered_to(deliveries, h.ndeliveries)
 }
 
-// After E: 10 and 11. It owns the loops, so that the hour is not copied.
-// Where no delivery has a number of its own, the first of all is the first without.
-pub fn finish(h: Hour) -> Verdict
-    requires { ⌜ Few (countsOf h) ⌝ }
-    ensures { λ r. ⌜ r ≡ verdictOf (finished h) ⌝ }
+// After E: 10 and 11. Where no delivery has a number of its own, the first of all is the first without.
+pub fn finish(n: Counts, losses: u32, t: Totals) -> Verdict
+    requires { ⌜ Few n × (t .delivered ≤ 137438953472) ⌝ }
+    ensures { λ r. ⌜ r ≡ finishedBy n losses t ⌝ }
 {
-    let mut made: u64 = 0;
-    let mut i: usize = 0;
-    while i < h.nsources {
-        let x = h.sources[i];
-        let p = x.plant;
-        made = made + wide(generation_of(p));
-        i += 1;
-    }
-    let mut taken: u64 = 0;
-    let mut j: usize = 0;
-    while j < h.ndeliveries {
-        let x = h.deliveries[j];
-        taken = taken + wide(x.mwh);
-        j += 1;
-    }
-    if made < wide(h.losses) + taken {
+    if t.generated < wide(losses) + t.delivered {
         return Verdict::Refused(Refusal::Overdrawn);
     }
-    if h.ndeliveries == 0 {
+    if n.deliveries == 0 {
         return Verdict::Accepted;
     }
-    let mut q: usize = 0;
-    while q < h.ndeliveries {
-        let x = h.deliveries[q];
-        let s = x.sequence;
-        if s.0 != 0 {
-            return Verdict::Accepted;
-        }
-        q += 1;
+    if t.numbered {
+        return Verdict::Accepted;
     }
-    Verdict::Refused(Refusal::Unplaced(h.nsources + 2))
+    Verdict::Refused(Refusal::Unplaced(n.sources + 2))
 }

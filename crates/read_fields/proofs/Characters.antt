@@ -1,18 +1,16 @@
 -- The steps of reading a label's characters out of its own bytes.
 use mathlib.Core.Path.{_≡_, refl, ap, sym, _∙_}
-use mathlib.Core.Bool.{Bool, true, false}
+use mathlib.Core.Bool.{true, false}
 use mathlib.Core.List.{List, [], _∷_}
 use Prim.Native.Nat.{ℕ, zero, suc, _+_, _-_, _<_, _≤_}
 use native.Mathlib.Numerals.{add-one}
 use native.Mathlib.Omega.{arith}
-use lib.Dec.{eqb}
 use lib.ListN.{length, set, drop, replicate, drop-of-length-le}
 use lib.Seq.{drop-cons, sets, sets-eq}
-use Rattle.rules.specs.Words.{if_then_else_}
+use borrow.Author.Tests.{eq-eqb, ne-eqb}
 use Rattle.rules.specs.Fields as fields
 use Rattle.rules.specs.Fields.{byte, unescape, Chars}
 use Rattle.rules.specs.Record.{labelOf}
-use Rattle.read_fields.specs.Answers.{characterAt}
 
 pub unescape-end : (t : List ℕ) (i : ℕ) → length t ≤ i → unescape false (drop i t) ≡ []
 unfolding fields.unescape
@@ -20,33 +18,22 @@ unescape-end t i h = rw drop-of-length-le
 
 -- the character that is written from the index i on
 module _ (t : List ℕ) (i : ℕ) (h : i < length t) where
-  after-backslash : eqb (byte t i) 92 ≡ true → unescape false (drop i t) ≡ unescape true (drop (i + 1) t)
+  pub unescape-plain : (byte t i ≡ 92 → ⊥) → unescape false (drop i t) ≡ byte t i ∷ unescape false (drop (i + 1) t)
   unfolding fields.unescape
-  after-backslash e = rw (drop-cons t i 0, e, add-one i)
+  unescape-plain k = rw (drop-cons t i 0, ne-eqb (byte t i) 92 k, add-one i)
 
-  module _ (j : ℕ) (k : j ≡ characterAt t i) where
-    pub character-from : i ≤ j
-    character-from = go (eqb (byte t i) 92) k
-      where
-        go : (p : Bool) → j ≡ (if p then i + 1 else i) → i ≤ j
-        go true k = omega arith
-        go false k = omega arith
-
-    pub unescape-none : length t ≤ j → unescape false (drop i t) ≡ []
+  module _ (k : byte t i ≡ 92) where
+    after-backslash : unescape false (drop i t) ≡ unescape true (drop (i + 1) t)
     unfolding fields.unescape
-    unescape-none past = go (eqb (byte t i) 92) refl k
-      where
-        go : (p : Bool) → eqb (byte t i) 92 ≡ p → j ≡ (if p then i + 1 else i) → unescape false (drop i t) ≡ []
-        go true e k = let past : length t ≤ i + 1 = omega arith in after-backslash e ∙ rw drop-of-length-le
-        go false e k = absurd (omega arith)
+    after-backslash = rw (drop-cons t i 0, eq-eqb (byte t i) 92 k, add-one i)
 
-    pub unescape-more : j < length t → unescape false (drop i t) ≡ byte t j ∷ unescape false (drop (j + 1) t)
+    pub unescape-cut : length t ≤ i + 1 → unescape false (drop i t) ≡ []
     unfolding fields.unescape
-    unescape-more there = go (eqb (byte t i) 92) refl k
-      where
-        go : (p : Bool) → eqb (byte t i) 92 ≡ p → j ≡ (if p then i + 1 else i) → unescape false (drop i t) ≡ byte t j ∷ unescape false (drop (j + 1) t)
-        go true e k = let there : i + 1 < length t = omega arith in after-backslash e ∙ rw (k, drop-cons t (i + 1) 0, add-one (i + 1))
-        go false e k = rw (k, drop-cons t i 0, e, add-one i)
+    unescape-cut past = after-backslash ∙ rw drop-of-length-le
+
+    pub unescape-escaped : i + 1 < length t → unescape false (drop i t) ≡ byte t (i + 1) ∷ unescape false (drop (i + 2) t)
+    unfolding fields.unescape
+    unescape-escaped there = let two : i + 2 ≡ i + 1 + 1 = omega arith in after-backslash ∙ rw (two, drop-cons t (i + 1) 0, add-one (i + 1))
 
 -- how far it is read: what is still to come, stored from n on, makes the label
 pub record Filled (t bytes : List ℕ) (n i : ℕ) : Type 0 where

@@ -1,10 +1,7 @@
 -- What the readers answer where the rules find a field: each number is cut at 1,000,000, which is above every range.
 use mathlib.Core.Option.{Option, none, some}
-use mathlib.Core.List.{List}
-use Prim.Native.Nat.{ℕ, _+_, min}
-use lib.Dec.{eqb}
-use Rattle.rules.specs.Words.{if_then_else_}
-use Rattle.rules.specs.Fields.{Field, got, malformed, byte, Place}
+use Prim.Native.Nat.{ℕ, min}
+use Rattle.rules.specs.Fields.{Field, got, malformed, Place}
 use Rattle.rules.specs.declared.Basis.{Basis}
 use Rattle.rules.specs.declared.Basis.the-variants.{Low, Generation, Mwh}
 use Rattle.read_fields.specs.declared.Step.{Step}
@@ -45,7 +42,3 @@ endOf none = Unclosed
 abbrev pub labelField : Field Place → LabelField
 labelField (got p next) = LabelAt (p .from) (p .upto) next
 labelField malformed = NoLabel
-
--- where the character stands that is written from the index i on: after a backslash, or there
-abbrev pub characterAt : List ℕ → ℕ → ℕ
-characterAt t i = if eqb (byte t i) 92 then i + 1 else i

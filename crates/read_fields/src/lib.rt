@@ -6,7 +6,7 @@ ghost use Prim.Native.Nat.{_≤_, _<_};
 ghost use lib.ListN.{length, getD, drop};
 ghost use Rattle.rules.specs.Fields.{isDigit, isCharacter, isEscaped, byteAt, run, numberAt, closed as closedAt, labelEnd, unescape, spacedNumber, spacedBasis, basisAt, spacedLabel};
 ghost use Rattle.rules.specs.Record.{labelOf};
-ghost use Rattle.read_fields.specs.Answers.{cut, stepOf, numberField, basisField, endOf, labelField, characterAt};
+ghost use Rattle.read_fields.specs.Answers.{cut, stepOf, numberField, basisField, endOf, labelField};
 use rules::Basis;
 use rules::Label;
 
@@ -69,20 +69,18 @@ pub fn byte(s: &[u8], at: usize, b: u8) -> Step
 
 // Numbers.
 
-// internal: used by the number readers
 fn is_digit(b: u8) -> bool
     ensures { λ r. ⌜ r ≡ isDigit b ⌝ }
 {
-    if b < 48 {
+    if b < b'0' {
         return false;
     }
-    if 57 < b {
+    if b'9' < b {
         return false;
     }
     true
 }
 
-// internal: used by the run of digits
 fn cut_at(v: u32) -> u32
     ensures { λ r. ⌜ r ≡ cut v ⌝ }
 {
@@ -108,7 +106,7 @@ fn run_on(s: &[u8], at: usize, before: u32) -> NumberField
         if !is_digit(b) {
             return NumberField::Number(v, i);
         }
-        v = cut_at(v * 10 + (wide(b) - 48));
+        v = cut_at(v * 10 + wide(b - b'0'));
         i += 1;
     }
     NumberField::Number(v, i)
@@ -122,21 +120,21 @@ pub fn number(s: &[u8], at: usize) -> NumberField
     if !is_digit(first) {
         return NumberField::Malformed;
     }
-    if first == 48 {
+    if first == b'0' {
         let second = peek(s, at + 1);
         if is_digit(second) {
             return NumberField::Malformed;
         }
         return NumberField::Number(0, at + 1);
     }
-    run_on(s, at + 1, wide(first) - 48)
+    run_on(s, at + 1, wide(first - b'0'))
 }
 
 // A space, and a number after it.
 pub fn spaced_number(s: &[u8], at: usize) -> NumberField
     ensures { λ r. ⌜ r ≡ numberField (spacedNumber (now (s .entry)) at) ⌝ }
 {
-    let Step::At(p) = byte(s, at, 32) else {
+    let Step::At(p) = byte(s, at, b' ') else {
         return NumberField::Malformed;
     };
     number(s, p)
@@ -144,15 +142,14 @@ pub fn spaced_number(s: &[u8], at: usize) -> NumberField
 
 // Bases.
 
-// internal: used by the reader below
 fn basis_at(s: &[u8], at: usize) -> BasisField
     ensures { λ r. ⌜ r ≡ basisField (basisAt (now (s .entry)) at) ⌝ }
 {
     let b = peek(s, at);
-    if b == 76 {
+    if b == b'L' {
         return BasisField::Basis(Basis::Low, at + 1);
     }
-    if b == 71 {
+    if b == b'G' {
         return BasisField::Basis(Basis::Generation, at + 1);
     }
     let NumberField::Number(v, next) = number(s, at) else {
@@ -165,7 +162,7 @@ fn basis_at(s: &[u8], at: usize) -> BasisField
 pub fn spaced_basis(s: &[u8], at: usize) -> BasisField
     ensures { λ r. ⌜ r ≡ basisField (spacedBasis (now (s .entry)) at) ⌝ }
 {
-    let Step::At(p) = byte(s, at, 32) else {
+    let Step::At(p) = byte(s, at, b' ') else {
         return BasisField::Malformed;
     };
     basis_at(s, p)
@@ -173,27 +170,25 @@ pub fn spaced_basis(s: &[u8], at: usize) -> BasisField
 
 // Labels.
 
-// internal: used by the label readers
-fn is_character(c: u8) -> bool
+pub fn is_character(c: u8) -> bool
     ensures { λ r. ⌜ r ≡ isCharacter c ⌝ }
 {
-    if c < 32 {
+    if c < b' ' {
         return false;
     }
-    if 126 < c {
+    if b'~' < c {
         return false;
     }
     true
 }
 
-// internal: used by the label readers
 fn is_escaped(c: u8) -> bool
     ensures { λ r. ⌜ r ≡ isEscaped c ⌝ }
 {
-    if c == 34 {
+    if c == b'"' {
         return true;
     }
-    if c == 92 {
+    if c == b'\\' {
         return true;
     }
     false
@@ -216,17 +211,17 @@ fn closed(n: usize, i: usize) -> LabelEnd
 pub fn read_label(part: &[u8]) -> LabelEnd
     ensures { λ r. ⌜ r ≡ endOf (labelEnd (now (part .entry))) ⌝ }
 {
-    if peek(part, 0) != 34 {
+    if peek(part, 0) != b'"' {
         return LabelEnd::Unclosed;
     }
     let mut n: usize = 0;
     let mut i: usize = 1;
     while i < part.len() {
         let b = part[i];
-        if b == 34 {
+        if b == b'"' {
             return closed(n, i);
         }
-        if b == 92 {
+        if b == b'\\' {
             let c = peek(part, i + 1);
             if !is_escaped(c) {
                 return LabelEnd::Unclosed;
@@ -248,21 +243,13 @@ pub fn read_label(part: &[u8]) -> LabelEnd
 pub fn spaced_label(s: &[u8], at: usize) -> LabelField
     ensures { λ r. ⌜ r ≡ labelField (spacedLabel (now (s .entry)) at) ⌝ }
 {
-    let Step::At(d) = byte(s, at, 32) else {
+    let Step::At(d) = byte(s, at, b' ') else {
         return LabelField::Malformed;
     };
     let LabelEnd::Closed(z) = read_label(&s[d..]) else {
         return LabelField::Malformed;
     };
     LabelField::At(d + 1, d + z, d + z + 1)
-}
-
-// internal: where the character stands that is written from the index i on
-fn character_at(part: &[u8], i: usize) -> usize
-    requires { ⌜ i < length (now part) ⌝ }
-    ensures { λ r. ⌜ r ≡ characterAt (now (part .entry)) i ⌝ }
-{
-    if part[i] == 92 { i + 1 } else { i }
 }
 
 // The characters of a label's own bytes.
@@ -274,16 +261,22 @@ pub fn label_at(part: &[u8]) -> Label
     let mut n: usize = 0;
     let mut i: usize = 0;
     while i < part.len() {
-        let j = character_at(part, i);
-        if part.len() <= j {
-            return Label {
-                len: n as u8,
-                bytes,
-            };
+        let b = part[i];
+        if b == b'\\' {
+            if part.len() <= i + 1 {
+                return Label {
+                    len: n as u8,
+                    bytes,
+                };
+            }
+            bytes[n] = part[i + 1];
+            n += 1;
+            i += 2;
+        } else {
+            bytes[n] = b;
+            n += 1;
+            i += 1;
         }
-        bytes[n] = part[j];
-        n += 1;
-        i = j + 1;
     }
     Label {
         len: n as u8,

@@ -1,35 +1,26 @@
 -- The loops over a record's own entries: their steps and their ends.
-use mathlib.Core.Path.{_≡_, refl, ap, sym, _∙_}
-use mathlib.Core.Bool.{Bool, true, false, not}
-use mathlib.Core.List.{List, []}
-use Prim.Native.Nat.{ℕ, zero, suc, _+_, _*_, _<_, _≤_}
-use native.Mathlib.Decide.{decLt, ℕ-discrete}
+use mathlib.Core.Path.{_≡_, ap, sym, _∙_}
+use mathlib.Core.Bool.{Bool, true, false, not, _&&_}
+use mathlib.Core.List.{List}
+use Prim.Native.Nat.{ℕ, _+_, _<_, _≤_}
+use native.Mathlib.Decide.{decLt}
 use native.Mathlib.Numerals.{add-one}
 use native.Mathlib.Omega.{arith}
-use lib.Dec.{leb, ltb}
-use lib.ListN.{length, getD, set, length-set, getD-replicate}
-use lib.Seq.{getD-set-same, getD-set-other}
-use borrow.Author.Tests.{ltb-true, leb-true, le-leb, lt-leb, lt-ltb, le-ltb}
-use Rattle.rules.specs.Words as words
-use Rattle.rules.specs.Words.{allTo}
-use Rattle.rules.specs.Ranges.{percent}
-use Rattle.rules.specs.Lines.{D, line}
+use lib.Dec.{leb, ltb, eqb}
+use lib.ListN.{getD, set}
+use borrow.Author.Tests.{not-true, ltb-true, ltb-false, leb-true, le-leb, lt-leb, lt-ltb, le-ltb}
 use Rattle.rules.specs.Group.{noDirect}
-use Rattle.rules.specs.declared.Basis.{Basis}
 use Rattle.rules.specs.declared.Source.{Source}
 use Rattle.rules.specs.declared.Delivery.{Delivery}
 use Rattle.rules.specs.declared.Direct.{Direct}
 use Rattle.laws.specs.Choices.{both-true}
-use Rattle.roundtrip.specs.Fields.{inside-from}
-use Rattle.roundtrip.specs.Entries.{line-ranged}
-use Rattle.ranges.specs.Inside as inside
 use Rattle.ranges.specs.Inside.{directInside}
-use Rattle.line_rules.specs.Tried.{Few, basisCode}
+use Rattle.line_rules.specs.Tried.{Few, basisCode, codeLeaves, belowMost}
 use Rattle.line_rules.specs.declared.Key.{Key}
 use Rattle.line_rules.specs.declared.Counts.{Counts}
 use Rattle.record.specs.Shape.{ownLabel}
 use Rattle.record.specs.Own as own
-use Rattle.record.specs.Own.{basedTo, percentsTo, sourceRuled, sourceOwn, deliveryRuled, deliveryOwn, directRuled, directOwn, directOwnIn, fewEntries}
+use Rattle.record.specs.Own.{basedTo, percentsTo, sourceRuled, sourceOwn, deliveryRuled, deliveryOwn, directRuled, directOwn, fewEntries}
 
 -- Sources and deliveries.
 
@@ -72,12 +63,14 @@ direct-own n x high based percents e =
     let b = both-true (ltb (x .delivery) (n .deliveries)) (directRuled n x high based percents) (a .1) in
     record { source = ltb-true (x .source) (n .sources) (a .0); delivery = ltb-true (x .delivery) (n .deliveries) (b .0); ruled = b .1 }
 
-percent-most : (b : Basis) (p : ℕ) → directInside b p ≡ true → p ≤ 100
-unfolding inside.directInside
-percent-most b p e = inside-from percent p (line-ranged (line D (b, (p, ([], ([], tt))))) e .1 .0) .most
-
-pub own-percent : (n : Counts) (x : Direct) (high based percents : List ℕ) → directOwn n x high based percents ≡ true → x .percent ≤ 100
-own-percent n x high based percents e = percent-most (x .basis) (x .percent) (both-true (directInside (x .basis) (x .percent)) _ (direct-own n x high based percents e .ruled) .0)
+-- its unit's percents with its own
+pub own-total : (n : Counts) (x : Direct) (high based percents : List ℕ) → directOwn n x high based percents ≡ true → getD percents (x .source) 0 + x .percent ≤ 100
+own-total n x high based percents e =
+    let a = both-true (directInside (x .basis) (x .percent)) _ (direct-own n x high based percents e .ruled) in
+    let b = both-true (not (leb 32 (n .directs))) _ (a .1) in
+    let c = both-true (not (eqb (getD high (x .source) 0) 0)) _ (b .1) in
+    let d = both-true (codeLeaves (getD based (x .source) 0) (x .basis) && belowMost (x .basis) (getD high (x .source) 0)) _ (c .1) in
+    ltb-false 100 (getD percents (x .source) 0 + x .percent) (not-true _ (d .1))
 
 -- two numbers whose sum is within a bound is not over it
 pub sum-not-over : {r s a b : ℕ} (most : ℕ) → r ≡ a → s ≡ b → leb (r + s) most ≡ not (ltb most (a + b))
@@ -97,25 +90,6 @@ module _ (directs : List Direct) where
   pub percentsTo-more : (ps : List ℕ) (k : ℕ) → ps ≡ percentsTo directs k → set ps (at k .source) (getD ps (at k .source) 0 + at k .percent) ≡ percentsTo directs (k + 1)
   unfolding own.percentsTo
   percentsTo-more ps k p = rw (add-one k, p)
-
-  percentsTo-length : (k : ℕ) → length (percentsTo directs k) ≡ 32
-  unfolding own.percentsTo
-  percentsTo-length zero = refl
-  percentsTo-length (suc k) = simp length-set (percentsTo-length k)
-
-  -- each unit's percents of k lines
-  pub percents-small : (n m : ℕ) (high : List ℕ) (k : ℕ) → allTo (directOwnIn n m directs high) k ≡ true → (j : ℕ) → j < 32 → getD (percentsTo directs k) j 0 ≤ k * 100
-  unfolding own.percentsTo words.allTo
-  percents-small n m high zero e j l = omega (arith, getD-replicate {A = ℕ} 32 j 0 0 l)
-  percents-small n m high (suc k) e j l =
-      let b = both-true (allTo (directOwnIn n m directs high) k) _ e in
-      let p = own-percent _ (at k) _ _ _ (b .1) in
-      let r = percents-small n m high k (b .0) in
-      let s = at k .source in
-      elim (ℕ-discrete j s) [
-        | yes q ↦ rw q (omega (arith, getD-set-same (percentsTo directs k) s (getD (percentsTo directs k) s 0 + at k .percent) 0 (omega (arith, percentsTo-length k)), r s (omega arith)))
-        | no q ↦ omega (arith, getD-set-other (percentsTo directs k) s j (getD (percentsTo directs k) s 0 + at k .percent) 0 q, r j l)
-      ]
 
 -- Counts.
 

@@ -9,17 +9,12 @@ ghost use Rattle.line_rules.specs.Tried.{Few};
 ghost use Rattle.record.specs.Own.{sourceRuled, deliveryRuled, directOwn, fewEntries};
 use line_rules::Counts;
 use line_rules::Key;
+use line_rules::Totals;
 use rules::Delivery;
 use rules::Direct;
 use rules::Hour;
 use rules::Plant;
 use rules::Verdict;
-
-fn wide(x: u32) -> u64
-    ensures { λ r. ⌜ (r ≡ x) × (r < 4294967296) ⌝ }
-{
-    x as u64
-}
 
 // A source with a label, after i others.
 fn source_given(i: usize, p: Plant, key: Key, lo: &[u64; 32], hi: &[u64; 32]) -> bool
@@ -87,7 +82,7 @@ fn direct_given(
     if !line_rules::basis_allowed(b, based[s], high[s]) {
         return false;
     }
-    wide(percents[s]) + wide(x.percent) <= 100
+    line_rules::wide(percents[s]) + line_rules::wide(x.percent) <= 100
 }
 
 fn few_entries(n: Counts) -> bool
@@ -121,6 +116,11 @@ pub fn valid(h: Hour) -> bool
     let mut slo = [0u64; 32];
     let mut shi = [0u64; 32];
     let mut high = [0u32; 32];
+    let mut totals = Totals {
+        generated: 0,
+        delivered: 0,
+        numbered: false,
+    };
     let mut i: usize = 0;
     while i < n.sources {
         let x = h.sources[i];
@@ -133,9 +133,9 @@ pub fn valid(h: Hour) -> bool
         if !source_given(i, p, k, &slo, &shi) {
             return false;
         }
-        slo[i] = k.lo;
-        shi[i] = k.hi;
+        line_rules::keep_key(i, k, &mut slo, &mut shi);
         high[i] = line_rules::unit_high(p);
+        totals = line_rules::add_source(totals, p);
         i += 1;
     }
     let mut tlo = [0u64; 32];
@@ -151,8 +151,8 @@ pub fn valid(h: Hour) -> bool
         if !delivery_given(n.sources, j, x, k, &tlo, &thi) {
             return false;
         }
-        tlo[j] = k.lo;
-        thi[j] = k.hi;
+        line_rules::keep_key(j, k, &mut tlo, &mut thi);
+        totals = line_rules::add_delivery(totals, x);
         j += 1;
     }
     let mut based = [0u64; 32];
@@ -168,10 +168,7 @@ pub fn valid(h: Hour) -> bool
         if !direct_given(c, x, &high, &based, &percents) {
             return false;
         }
-        let b = x.basis;
-        let s = x.source;
-        based[s] = line_rules::basis_code(b);
-        percents[s] = percents[s] + x.percent;
+        line_rules::keep_direct(x, &mut based, &mut percents);
         q += 1;
     }
     while i < 32 {
@@ -195,7 +192,7 @@ pub fn valid(h: Hour) -> bool
         }
         q += 1;
     }
-    let Verdict::Accepted = line_rules::finish(h) else {
+    let Verdict::Accepted = line_rules::finish(n, h.losses, totals) else {
         return false;
     };
     true

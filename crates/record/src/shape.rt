@@ -21,10 +21,7 @@ fn own_byte(inside: bool, b: u8) -> bool
     if !inside {
         return b == 0;
     }
-    if b < 32 {
-        return false;
-    }
-    b <= 126
+    read_fields::is_character(b)
 }
 
 // Characters as far as the label goes, and zeros after them.

@@ -7,8 +7,12 @@ use borrow.Author.Needs.{needs}
 use Rattle.deck.proofs.delivery_at.Statement.{statement}
 use Rattle.deck.proofs.delivery_at.Tie as tie
 
-stands : (c : tie.After-known-told) → LabelStands (c .before .before .before .before .before .args .s .now) (record { from = c .before .sequence .given .0 .1 .1 .1 .1 .0; upto = c .before .sequence .given .0 .1 .1 .1 .1 .1 .0 })
-stands c = delivery-told (c .before .before .before .before .before .args .s .now) (c .before .before .before .before .before .args .at) (c .before .sequence .given .0 .0) (c .before .sequence .given .0 .1 .0) (c .before .sequence .given .0 .1 .1 .0) (c .before .sequence .given .0 .1 .1 .1 .0) (c .before .sequence .given .0 .1 .1 .1 .1 .0) (c .before .sequence .given .0 .1 .1 .1 .1 .1 .0) (c .before .sequence .given .0 .1 .1 .1 .1 .1 .1 .0) (sym (c .before .before .before .delivery .ensures) ∙ c .before .sequence .given .1)
+stands : (c : tie.After-known-told) → let after-sequence = c .before in let start = after-sequence .before .before .before .before in LabelStands (start .args .s .now) (record { from = after-sequence .sequence .given .0 .1 .1 .1 .1 .0; upto = after-sequence .sequence .given .0 .1 .1 .1 .1 .1 .0 })
+stands c =
+    let after-sequence = c .before in
+    let after-delivery = after-sequence .before .before in
+    let start = after-delivery .before .before in
+    delivery-told (start .args .s .now) (start .args .at) (after-sequence .sequence .given .0 .0) (after-sequence .sequence .given .0 .1 .0) (after-sequence .sequence .given .0 .1 .1 .0) (after-sequence .sequence .given .0 .1 .1 .1 .0) (after-sequence .sequence .given .0 .1 .1 .1 .1 .0) (after-sequence .sequence .given .0 .1 .1 .1 .1 .1 .0) (after-sequence .sequence .given .0 .1 .1 .1 .1 .1 .1 .0) (sym (after-delivery .delivery .ensures) ∙ after-sequence .sequence .given .1)
 
 delivery-requires : tie.Need-delivery-requires
 delivery-requires c κs = search needs
@@ -26,7 +30,11 @@ delivery-refused-requires : tie.Need-delivery-refused-requires
 delivery-refused-requires c κs = search needs
 
 returns : tie.Need-returns
-returns c = rw (← (c .before .before .before .before .delivery .ensures), c .before .before .enum-told .given .1, c .delivery-refused .ensures, c .before .next-line .ensures)
+returns c =
+    let after-next-line = c .before in
+    let after-enum-told = after-next-line .before in
+    let after-delivery = after-enum-told .before .before in
+    rw (← (after-delivery .delivery .ensures), after-enum-told .enum-told .given .1, c .delivery-refused .ensures, after-next-line .next-line .ensures)
 
 sub-label-at : tie.Need-sub-label-at
 sub-label-at c = stands c .order
@@ -51,7 +59,13 @@ take-delivery-requires c κs = search needs
 
 returns-2 : tie.Need-returns-2
 unfolding steps.deliveryTook
-returns-2 c = rw (← (c .before .before .before .before .before .before .before .before .delivery .ensures), c .before .before .before .before .before .before .sequence .given .1, c .take-delivery .ensures, c .before .delivery-in-range .ensures, c .before .before .key-of .ensures, c .before .before .before .label-at .ensures)
+returns-2 c =
+    let after-delivery-in-range = c .before in
+    let after-key-of = after-delivery-in-range .before in
+    let after-label-at = after-key-of .before in
+    let after-sequence = after-label-at .before .before .before in
+    let after-delivery = after-sequence .before .before in
+    rw (← (after-delivery .delivery .ensures), after-sequence .sequence .given .1, c .take-delivery .ensures, after-delivery-in-range .delivery-in-range .ensures, after-key-of .key-of .ensures, after-label-at .label-at .ensures)
 
 pub delivery-at-spec : {M : Type 1} → statement M
 delivery-at-spec =

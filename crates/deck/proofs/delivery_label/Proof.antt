@@ -22,7 +22,11 @@ part-result-end c = search needs
 
 returns : tie.Need-returns
 unfolding calls.deliveryPart
-returns c = part-past (c .before .before .before .before .args .s .now) (deliveryPartOf (reading (c .before .before .before .before .args .s .now))) (c .before .before .scan .result .deliveries) (c .before .before .before .before .args .i) (c .before .before .scan .ensures .deliveries) (c .before .if1 .taken)
+returns c =
+    let if1-taken = c .before in
+    let after-scan = if1-taken .before in
+    let start = after-scan .before .before in
+    part-past (start .args .s .now) (deliveryPartOf (reading (start .args .s .now))) (after-scan .scan .result .deliveries) (start .args .i) (after-scan .scan .ensures .deliveries) (if1-taken .if1 .taken)
 
 mul-p : tie.Need-mul-p
 mul-p c = search needs
@@ -31,11 +35,17 @@ element-copy-out-p : tie.Need-element-copy-out-p
 element-copy-out-p c = search needs
 
 part-at-requires : tie.Need-part-at-requires
-part-at-requires c κs = let p = c .before .before .scan .ensures .deliveries .each (c .before .before .before .before .args .i) in (p .order, p .within)
+part-at-requires c κs =
+    let after-scan = c .before .before in
+    let start = after-scan .before .before in
+    let p = after-scan .scan .ensures .deliveries .each (start .args .i) in (p .order, p .within)
 
 returns-2 : tie.Need-returns-2
 unfolding calls.deliveryPart
-returns-2 c = c .part-at .ensures ∙ c .before .before .before .scan .ensures .deliveries .each (c .before .before .before .before .before .args .i) .bytes
+returns-2 c =
+    let after-scan = c .before .before .before in
+    let start = after-scan .before .before in
+    c .part-at .ensures ∙ after-scan .scan .ensures .deliveries .each (start .args .i) .bytes
 
 pub delivery-label-spec : {M : Type 1} → statement M
 delivery-label-spec =

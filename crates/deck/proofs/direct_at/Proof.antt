@@ -19,13 +19,24 @@ next-line-requires : tie.Need-next-line-requires
 next-line-requires c κs = search needs
 
 returns : tie.Need-returns
-returns c = rw (← (c .before .before .before .direct .ensures), c .before .enum-told .given .1, c .next-line .ensures)
+returns c =
+    let after-enum-told = c .before in
+    let after-direct = after-enum-told .before .before in
+    rw (← (after-direct .direct .ensures), after-enum-told .enum-told .given .1, c .next-line .ensures)
 
 key-at-requires : tie.Need-key-at-requires
-key-at-requires c κs = unit-named-told (c .before .before .before .before .before .args .s .now) (c .before .before .before .before .before .args .at) (c .before .basis .given .0 .0) (c .before .basis .given .0 .1 .0) (c .before .basis .given .0 .1 .1 .0) (c .before .basis .given .0 .1 .1 .1 .0) (c .before .basis .given .0 .1 .1 .1 .1 .0) (c .before .basis .given .0 .1 .1 .1 .1 .1 .0) (c .before .basis .given .0 .1 .1 .1 .1 .1 .1 .0) (sym (c .before .before .before .direct .ensures) ∙ c .before .basis .given .1)
+key-at-requires c κs =
+    let after-basis = c .before in
+    let after-direct = after-basis .before .before in
+    let start = after-direct .before .before in
+    unit-named-told (start .args .s .now) (start .args .at) (after-basis .basis .given .0 .0) (after-basis .basis .given .0 .1 .0) (after-basis .basis .given .0 .1 .1 .0) (after-basis .basis .given .0 .1 .1 .1 .0) (after-basis .basis .given .0 .1 .1 .1 .1 .0) (after-basis .basis .given .0 .1 .1 .1 .1 .1 .0) (after-basis .basis .given .0 .1 .1 .1 .1 .1 .1 .0) (sym (after-direct .direct .ensures) ∙ after-basis .basis .given .1)
 
 key-at-requires-2 : tie.Need-key-at-requires-2
-key-at-requires-2 c κs = delivery-named-told (c .before .before .before .before .before .before .args .s .now) (c .before .before .before .before .before .before .args .at) (c .before .before .basis .given .0 .0) (c .before .before .basis .given .0 .1 .0) (c .before .before .basis .given .0 .1 .1 .0) (c .before .before .basis .given .0 .1 .1 .1 .0) (c .before .before .basis .given .0 .1 .1 .1 .1 .0) (c .before .before .basis .given .0 .1 .1 .1 .1 .1 .0) (c .before .before .basis .given .0 .1 .1 .1 .1 .1 .1 .0) (sym (c .before .before .before .before .direct .ensures) ∙ c .before .before .basis .given .1)
+key-at-requires-2 c κs =
+    let after-basis = c .before .before in
+    let after-direct = after-basis .before .before in
+    let start = after-direct .before .before in
+    delivery-named-told (start .args .s .now) (start .args .at) (after-basis .basis .given .0 .0) (after-basis .basis .given .0 .1 .0) (after-basis .basis .given .0 .1 .1 .0) (after-basis .basis .given .0 .1 .1 .1 .0) (after-basis .basis .given .0 .1 .1 .1 .1 .0) (after-basis .basis .given .0 .1 .1 .1 .1 .1 .0) (after-basis .basis .given .0 .1 .1 .1 .1 .1 .1 .0) (sym (after-direct .direct .ensures) ∙ after-basis .basis .given .1)
 
 direct-in-range-requires : tie.Need-direct-in-range-requires
 direct-in-range-requires c κs = search needs
@@ -35,7 +46,13 @@ take-direct-requires c κs = search needs
 
 returns-2 : tie.Need-returns-2
 unfolding steps.directTook
-returns-2 c = rw (← (c .before .before .before .before .before .before .before .direct .ensures), c .before .before .before .before .before .basis .given .1, c .take-direct .ensures, c .before .direct-in-range .ensures, c .before .before .key-at2 .ensures, c .before .before .before .key-at .ensures)
+returns-2 c =
+    let after-direct-in-range = c .before in
+    let after-key-at2 = after-direct-in-range .before in
+    let after-key-at = after-key-at2 .before in
+    let after-basis = after-key-at .before .before in
+    let after-direct = after-basis .before .before in
+    rw (← (after-direct .direct .ensures), after-basis .basis .given .1, c .take-direct .ensures, after-direct-in-range .direct-in-range .ensures, after-key-at2 .key-at2 .ensures, after-key-at .key-at .ensures)
 
 pub direct-at-spec : {M : Type 1} → statement M
 direct-at-spec =

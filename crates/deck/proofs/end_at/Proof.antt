@@ -20,10 +20,16 @@ add-t9 : tie.Need-add-t9
 add-t9 c = search needs
 
 returns-2 : tie.Need-returns-2
-returns-2 c = rw (← (c .before .before .before .before .byte .ensures), c .before .before .p .given .1, ne-eqb _ _ (c .if1 .taken))
+returns-2 c =
+    let after-p = c .before .before in
+    let after-byte = after-p .before .before in
+    rw (← (after-byte .byte .ensures), after-p .p .given .1, ne-eqb _ _ (c .if1 .taken))
 
 returns-3 : tie.Need-returns-3
-returns-3 c = rw (← (c .before .before .before .before .byte .ensures), c .before .before .p .given .1, eq-eqb _ _ (c .if1 .left))
+returns-3 c =
+    let after-p = c .before .before in
+    let after-byte = after-p .before .before in
+    rw (← (after-byte .byte .ensures), after-p .p .given .1, eq-eqb _ _ (c .if1 .left))
 
 pub end-at-spec : {M : Type 1} → statement M
 end-at-spec =

@@ -1,26 +1,29 @@
--- `deck::source_at` meets its contract: by the letter.
-use borrow.Author.Tests.{eq-eqb, ne-eqb}
+-- `deck::source_at` meets its contract: the rules tried on the source that was read, with its label where it stands.
+use mathlib.Core.Path.{sym, _∙_}
+use native.Mathlib.Omega.{arith}
+use Rattle.read_lines.specs.Cut.{LabelStands}
+use Rattle.deck.specs.Steps as steps
+use Rattle.deck.specs.LabelsTold.{source-told}
 use borrow.Author.Needs.{needs}
 use Rattle.deck.proofs.source_at.Statement.{statement}
 use Rattle.deck.proofs.source_at.Tie as tie
 
-unit-at-requires : tie.Need-unit-at-requires
-unit-at-requires c κs = search needs
+-- the label stands where the line tells
+stands : (c : tie.After-known-told) → let line = c .before in LabelStands (line .before .before .before .before .args .s .now) (record { from = line .ranged .given .0 .1 .1 .0; upto = line .ranged .given .0 .1 .1 .1 .0 })
+stands c =
+    let line = c .before in
+    let read = line .before .before in
+    let start = read .before .before in
+    source-told (start .args .s .now) (start .args .at) (line .ranged .given .0 .0) (line .ranged .given .0 .1 .0) (line .ranged .given .0 .1 .1 .0) (line .ranged .given .0 .1 .1 .1 .0) (line .ranged .given .0 .1 .1 .1 .1 .0) (start .args .letter) (sym (read .plant-at .ensures) ∙ line .ranged .given .1)
 
-returns : tie.Need-returns
-returns c = rw (eq-eqb _ _ (c .before .if1 .taken)) (c .unit-at .ensures)
+plant-at-requires : tie.Need-plant-at-requires
+plant-at-requires c κs = search needs
 
-purchase-at-requires : tie.Need-purchase-at-requires
-purchase-at-requires c κs = search needs
+enum-known-ranged : tie.Need-enum-known-ranged
+enum-known-ranged c = search needs
 
-returns-2 : tie.Need-returns-2
-returns-2 c = rw (ne-eqb _ _ (c .before .before .if1 .left), eq-eqb _ _ (c .before .if2 .taken)) (c .purchase-at .ensures)
-
-fixed-at-requires : tie.Need-fixed-at-requires
-fixed-at-requires c κs = search needs
-
-returns-3 : tie.Need-returns-3
-returns-3 c = rw (ne-eqb _ _ (c .before .before .before .if1 .left), ne-eqb _ _ (c .before .before .if2 .left), eq-eqb _ _ (c .before .if3 .taken)) (c .fixed-at .ensures)
+enum-told : tie.Need-enum-told
+enum-told c = search needs
 
 next-line-requires : tie.Need-next-line-requires
 next-line-requires c κs = search needs
@@ -28,19 +31,51 @@ next-line-requires c κs = search needs
 source-refused-requires : tie.Need-source-refused-requires
 source-refused-requires c κs = search needs
 
-returns-4 : tie.Need-returns-4
-returns-4 c = rw (ne-eqb _ _ (c .before .before .before .before .if1 .left), ne-eqb _ _ (c .before .before .before .if2 .left), ne-eqb _ _ (c .before .before .if3 .left), c .source-refused .ensures, c .before .next-line .ensures)
+returns : tie.Need-returns
+returns c =
+    let told = c .before .before in
+    rw (← (told .before .before .plant-at .ensures), told .enum-told .given .1, c .source-refused .ensures, c .before .next-line .ensures)
+
+sub-label-at : tie.Need-sub-label-at
+sub-label-at c = omega (arith, stands c .order)
+
+part-label-at-start : tie.Need-part-label-at-start
+part-label-at-start c = omega (arith, stands c .order, stands c .within)
+
+part-label-at-end : tie.Need-part-label-at-end
+part-label-at-end c = omega (arith, stands c .within)
+
+label-at-requires : tie.Need-label-at-requires
+label-at-requires c κs = stands (c .before) .few
+
+key-of-requires : tie.Need-key-of-requires
+key-of-requires c κs = search needs
+
+take-source-requires : tie.Need-take-source-requires
+take-source-requires c κs = search needs
+
+returns-2 : tie.Need-returns-2
+unfolding steps.sourceStep
+returns-2 c =
+    let key = c .before in
+    let label = key .before in
+    let line = label .before .before .before in
+    rw (← (line .before .before .plant-at .ensures), line .ranged .given .1, c .take-source .ensures, key .key-of .ensures, label .label-at .ensures)
 
 pub source-at-spec : {M : Type 1} → statement M
 source-at-spec =
     tie.close
     (tie.spec
-    unit-at-requires
-    returns
-    purchase-at-requires
-    returns-2
-    fixed-at-requires
-    returns-3
+    plant-at-requires
+    enum-known-ranged
+    enum-told
     next-line-requires
     source-refused-requires
-    returns-4)
+    returns
+    sub-label-at
+    part-label-at-start
+    part-label-at-end
+    label-at-requires
+    key-of-requires
+    take-source-requires
+    returns-2)

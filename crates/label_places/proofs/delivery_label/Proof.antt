@@ -24,36 +24,53 @@ part-result-end c = search needs
 
 returns : tie.Need-returns
 returns c =
-    let a = c .before .before .before .before .args in
-    none-told _ _ (labelStart (a .s .now) (sourcesOf (reading (a .s .now)) + a .j + 1)) _ _ (c .before .before .delivery-label .ensures) (c .before .if1 .taken)
+    let if1-taken = c .before in
+    let after-delivery-label = if1-taken .before in
+    let start = after-delivery-label .before .before in
+    let a = start .args in
+    none-told _ _ (labelStart (a .s .now) (sourcesOf (reading (a .s .now)) + a .j + 1)) _ _ (after-delivery-label .delivery-label .ensures) (if1-taken .if1 .taken)
 
 read-requires : tie.Need-read-requires
 read-requires c κs = search needs
 
 add-part-from : tie.Need-add-part-from
 add-part-from c =
-    let x = delivery-told _ _ _ (c .before .before .before .if1 .left) (c .before .before .before .before .delivery-label .ensures) in
-    omega (arith, x .few, x .sources, read-sources _ (c .before .before .read .result) (c .before .before .read .ensures))
+    let after-read = c .before .before in
+    let if1-left = after-read .before in
+    let after-delivery-label = if1-left .before in
+    let x = delivery-told _ _ _ (if1-left .if1 .left) (after-delivery-label .delivery-label .ensures) in
+    omega (arith, x .few, x .sources, read-sources _ (after-read .read .result) (after-read .read .ensures))
 
 add-part-from-2 : tie.Need-add-part-from-2
 add-part-from-2 c =
-    let x = delivery-told _ _ _ (c .before .before .before .if1 .left) (c .before .before .before .before .delivery-label .ensures) in
-    omega (arith, x .few, x .sources, read-sources _ (c .before .before .read .result) (c .before .before .read .ensures))
+    let after-read = c .before .before in
+    let if1-left = after-read .before in
+    let after-delivery-label = if1-left .before in
+    let x = delivery-told _ _ _ (if1-left .if1 .left) (after-delivery-label .delivery-label .ensures) in
+    omega (arith, x .few, x .sources, read-sources _ (after-read .read .result) (after-read .read .ensures))
 
 part-from-requires : tie.Need-part-from-requires
 part-from-requires c κs =
-    let a = c .before .before .before .before .before .before .args in
-    let x = c .before .before .read in
-    let d = c .before .before .before .before .delivery-label in
+    let after-read = c .before .before in
+    let if1-left = after-read .before in
+    let after-delivery-label = if1-left .before in
+    let start = after-delivery-label .before .before in
+    let a = start .args in
+    let x = after-read .read in
+    let d = after-delivery-label .delivery-label in
     let l = read-sources _ (x .result) (x .ensures) in
-    rw l (part-ends (a .s .now) (d .result .now) (labelStart (a .s .now) (sourcesOf (reading (a .s .now)) + a .j + 1)) (c .before .before .before .if1 .left) (rw (d .ensures) (delivery-stands (a .s .now) (a .j))))
+    rw l (part-ends (a .s .now) (d .result .now) (labelStart (a .s .now) (sourcesOf (reading (a .s .now)) + a .j + 1)) (if1-left .if1 .left) (rw (d .ensures) (delivery-stands (a .s .now) (a .j))))
 
 returns-2 : tie.Need-returns-2
 returns-2 c =
-    let a = c .before .before .before .before .before .before .before .args in
-    let x = c .before .before .before .read in
-    let d = c .before .before .before .before .before .delivery-label in
-    some-told _ _ (labelStart (a .s .now) (sourcesOf (reading (a .s .now)) + a .j + 1)) _ _ (d .ensures) (a .s .now) _ _ _ (c .before .before .before .before .if1 .left)
+    let after-read = c .before .before .before in
+    let if1-left = after-read .before in
+    let after-delivery-label = if1-left .before in
+    let start = after-delivery-label .before .before in
+    let a = start .args in
+    let x = after-read .read in
+    let d = after-delivery-label .delivery-label in
+    some-told _ _ (labelStart (a .s .now) (sourcesOf (reading (a .s .now)) + a .j + 1)) _ _ (d .ensures) (a .s .now) _ _ _ (if1-left .if1 .left)
     (ap (λ (m : ℕ). labelStart (a .s .now) (m + a .j + 1)) (read-sources _ (x .result) (x .ensures))) (delivery-stands (a .s .now) (a .j)) (c .part-from .ensures .0) (c .part-from .ensures .1)
 
 pub delivery-label-spec : {M : Type 1} → statement M

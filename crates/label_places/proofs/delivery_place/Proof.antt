@@ -16,30 +16,44 @@ delivery-label-requires c κs = search needs
 
 returns : tie.Need-returns
 returns c =
-    let a = c .before .before .before .args in
-    label-none (labelStart (a .s .now) (sourcesOf (reading (a .s .now)) + a .j + 1)) _ (ap length (sym (c .before .delivery-label .ensures)) ∙ c .if1 .taken)
+    let after-delivery-label = c .before in
+    let start = after-delivery-label .before .before in
+    let a = start .args in
+    label-none (labelStart (a .s .now) (sourcesOf (reading (a .s .now)) + a .j + 1)) _ (ap length (sym (after-delivery-label .delivery-label .ensures)) ∙ c .if1 .taken)
 
 read-requires : tie.Need-read-requires
 read-requires c κs = search needs
 
 add-label-place : tie.Need-add-label-place
 add-label-place c =
-    let x = delivery-told _ _ _ (c .before .before .before .if1 .left) (c .before .before .before .before .delivery-label .ensures) in
-    omega (arith, x .few, x .sources, read-sources _ (c .before .before .read .result) (c .before .before .read .ensures))
+    let after-read = c .before .before in
+    let if1-left = after-read .before in
+    let after-delivery-label = if1-left .before in
+    let x = delivery-told _ _ _ (if1-left .if1 .left) (after-delivery-label .delivery-label .ensures) in
+    omega (arith, x .few, x .sources, read-sources _ (after-read .read .result) (after-read .read .ensures))
 
 add-label-place-2 : tie.Need-add-label-place-2
 add-label-place-2 c =
-    let x = delivery-told _ _ _ (c .before .before .before .if1 .left) (c .before .before .before .before .delivery-label .ensures) in
-    omega (arith, x .few, x .sources, read-sources _ (c .before .before .read .result) (c .before .before .read .ensures))
+    let after-read = c .before .before in
+    let if1-left = after-read .before in
+    let after-delivery-label = if1-left .before in
+    let x = delivery-told _ _ _ (if1-left .if1 .left) (after-delivery-label .delivery-label .ensures) in
+    omega (arith, x .few, x .sources, read-sources _ (after-read .read .result) (after-read .read .ensures))
 
 label-place-requires : tie.Need-label-place-requires
-label-place-requires c κs = let x = delivery-told _ _ _ (c .before .before .before .if1 .left) (c .before .before .before .before .delivery-label .ensures) in (x .short, x .small)
+label-place-requires c κs =
+    let if1-left = c .before .before .before in
+    let after-delivery-label = if1-left .before in
+    let x = delivery-told _ _ _ (if1-left .if1 .left) (after-delivery-label .delivery-label .ensures) in (x .short, x .small)
 
 returns-2 : tie.Need-returns-2
 returns-2 c =
-    let a = c .before .before .before .before .before .before .before .args in
-    let x = c .before .before .before .read in
-    let d = c .before .before .before .before .before .delivery-label in
+    let after-read = c .before .before .before in
+    let after-delivery-label = after-read .before .before in
+    let start = after-delivery-label .before .before in
+    let a = start .args in
+    let x = after-read .read in
+    let d = after-delivery-label .delivery-label in
     c .label-place .ensures
     ∙ ap (λ (m : ℕ). placeCode (partStart (labelStart (a .s .now) (m + a .j + 1)) (length (d .result .now))) (length (d .result .now))) (read-sources _ (x .result) (x .ensures))
     ∙ ap (λ (p : List ℕ). placeCode (partStart (labelStart (a .s .now) (sourcesOf (reading (a .s .now)) + a .j + 1)) (length p)) (length p)) (d .ensures)

@@ -13,10 +13,14 @@ label-start-requires : tie.Need-label-start-requires
 label-start-requires c κs = search needs
 
 mul-result : tie.Need-mul-result
-mul-result c = omega (arith, c .label-start .ensures .1, c .before .before .before .pre .0)
+mul-result c =
+    let start = c .before .before .before in
+    omega (arith, c .label-start .ensures .1, start .pre .0)
 
 add-result : tie.Need-add-result
-add-result c = omega (arith, c .label-start .ensures .1, c .before .before .before .pre .0, c .before .before .before .pre .1)
+add-result c =
+    let start = c .before .before .before in
+    omega (arith, c .label-start .ensures .1, start .pre .0, start .pre .1)
 
 returns-2 : tie.Need-returns-2
 returns-2 c = label-found _ _ _ (c .before .if1 .left) (c .label-start .ensures .0)

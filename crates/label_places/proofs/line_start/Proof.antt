@@ -31,7 +31,10 @@ loop-again : tie.Need-loop-again Inv-loop μ-loop
 loop-again c = (search needs, start-more _ _ _ _ (c .before .before .loop .inv .1) (c .past-byte .ensures .0), c .past-byte .ensures .1)
 
 returns : tie.Need-returns Inv-loop μ-loop
-returns c = let e : c .before .loop .j ≡ c .before .before .before .args .k = omega arith in (rw e at (c .before .loop .inv .1), c .before .loop .inv .2)
+returns c =
+    let at-loop = c .before in
+    let start = at-loop .before .before in
+    let e : at-loop .loop .j ≡ start .args .k = omega arith in (rw e at (at-loop .loop .inv .1), at-loop .loop .inv .2)
 
 pub line-start-spec : {M : Type 1} → statement M
 line-start-spec =

@@ -24,8 +24,10 @@ part-result-end c = omega (arith, c .label-start .ensures .0, c .before .before 
 
 returns : tie.Need-returns
 returns c =
-    let a = c .before .before .before .args in
-    let e = c .before .label-start .ensures .0 in
+    let after-label-start = c .before in
+    let start = after-label-start .before .before in
+    let a = start .args in
+    let e = after-label-start .label-start .ensures .0 in
     (part-there _ _ _ _ e, ap (λ (m : ℕ). (a .s .ptr .0, m + a .s .ptr .1)) e)
 
 pub part-from-spec : {M : Type 1} → statement M

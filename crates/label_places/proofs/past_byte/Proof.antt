@@ -24,7 +24,11 @@ add-result : tie.Need-add-result Inv-loop μ-loop
 add-result c = search needs
 
 returns : tie.Need-returns Inv-loop μ-loop
-returns c = walk-found (c .before .before .before .before .args .b) (c .before .before .before .before .args .s .now) (c .before .before .before .before .args .from) (c .before .before .before .loop .i) (c .before .before .before .loop .inv .1) (c .before .before .loop-test .taken) (c .if1 .taken)
+returns c =
+    let in-loop = c .before .before in
+    let at-loop = in-loop .before in
+    let start = at-loop .before in
+    walk-found (start .args .b) (start .args .s .now) (start .args .from) (at-loop .loop .i) (at-loop .loop .inv .1) (in-loop .loop-test .taken) (c .if1 .taken)
 
 add-i : tie.Need-add-i Inv-loop μ-loop
 add-i c = search needs
@@ -33,7 +37,11 @@ loop-less : tie.Need-loop-less Inv-loop μ-loop
 loop-less c = search needs
 
 loop-again : tie.Need-loop-again Inv-loop μ-loop
-loop-again c = (search needs, walk-on (c .before .before .before .before .args .b) (c .before .before .before .before .args .s .now) (c .before .before .before .before .args .from) (c .before .before .before .loop .i) (c .before .before .before .loop .inv .1) (c .before .before .loop-test .taken) (c .if1 .left))
+loop-again c =
+    let in-loop = c .before .before in
+    let at-loop = in-loop .before in
+    let start = at-loop .before in
+    (search needs, walk-on (start .args .b) (start .args .s .now) (start .args .from) (at-loop .loop .i) (at-loop .loop .inv .1) (in-loop .loop-test .taken) (c .if1 .left))
 
 returns-2 : tie.Need-returns-2 Inv-loop μ-loop
 returns-2 c = walk-ended (c .before .before .args .b) (c .before .before .args .s .now) (c .before .before .args .from) (c .before .loop .i) (c .before .loop .inv .1) (c .before .loop .inv .0) (c .loop-test .left)

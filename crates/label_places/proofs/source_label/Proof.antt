@@ -23,22 +23,30 @@ part-result-end c = search needs
 
 returns : tie.Need-returns
 returns c =
-    let a = c .before .before .before .before .args in
-    none-told _ _ (labelStart (a .s .now) (a .i + 1)) _ _ (c .before .before .source-label .ensures) (c .before .if1 .taken)
+    let if1-taken = c .before in
+    let after-source-label = if1-taken .before in
+    let start = after-source-label .before .before in
+    let a = start .args in
+    none-told _ _ (labelStart (a .s .now) (a .i + 1)) _ _ (after-source-label .source-label .ensures) (if1-taken .if1 .taken)
 
 add-part-from : tie.Need-add-part-from
 add-part-from c = omega (arith, source-told _ _ _ (c .if1 .left) (c .before .source-label .ensures) .few)
 
 part-from-requires : tie.Need-part-from-requires
 part-from-requires c κs =
-    let a = c .before .before .before .args in
-    let e = c .before .source-label .ensures in
-    part-ends (a .s .now) (c .before .source-label .result .now) (labelStart (a .s .now) (a .i + 1)) (c .if1 .left) (rw e (source-stands (a .s .now) (a .i)))
+    let after-source-label = c .before in
+    let start = after-source-label .before .before in
+    let a = start .args in
+    let e = after-source-label .source-label .ensures in
+    part-ends (a .s .now) (after-source-label .source-label .result .now) (labelStart (a .s .now) (a .i + 1)) (c .if1 .left) (rw e (source-stands (a .s .now) (a .i)))
 
 returns-2 : tie.Need-returns-2
 returns-2 c =
-    let a = c .before .before .before .before .args in
-    some-told _ _ (labelStart (a .s .now) (a .i + 1)) _ _ (c .before .before .source-label .ensures) (a .s .now) _ _ _ (c .before .if1 .left) refl (source-stands (a .s .now) (a .i))
+    let if1-left = c .before in
+    let after-source-label = if1-left .before in
+    let start = after-source-label .before .before in
+    let a = start .args in
+    some-told _ _ (labelStart (a .s .now) (a .i + 1)) _ _ (after-source-label .source-label .ensures) (a .s .now) _ _ _ (if1-left .if1 .left) refl (source-stands (a .s .now) (a .i))
     (c .part-from .ensures .0) (c .part-from .ensures .1)
 
 pub source-label-spec : {M : Type 1} → statement M

@@ -15,8 +15,10 @@ source-label-requires c κs = search needs
 
 returns : tie.Need-returns
 returns c =
-    let a = c .before .before .before .args in
-    label-none (labelStart (a .s .now) (a .i + 1)) _ (ap length (sym (c .before .source-label .ensures)) ∙ c .if1 .taken)
+    let after-source-label = c .before in
+    let start = after-source-label .before .before in
+    let a = start .args in
+    label-none (labelStart (a .s .now) (a .i + 1)) _ (ap length (sym (after-source-label .source-label .ensures)) ∙ c .if1 .taken)
 
 add-label-place : tie.Need-add-label-place
 add-label-place c = omega (arith, source-told _ _ _ (c .if1 .left) (c .before .source-label .ensures) .few)
@@ -26,8 +28,10 @@ label-place-requires c κs = let x = source-told _ _ _ (c .if1 .left) (c .before
 
 returns-2 : tie.Need-returns-2
 returns-2 c =
-    let a = c .before .before .before .before .args in
-    c .label-place .ensures ∙ ap (λ (p : List ℕ). placeCode (partStart (labelStart (a .s .now) (a .i + 1)) (length p)) (length p)) (c .before .before .source-label .ensures)
+    let after-source-label = c .before .before in
+    let start = after-source-label .before .before in
+    let a = start .args in
+    c .label-place .ensures ∙ ap (λ (p : List ℕ). placeCode (partStart (labelStart (a .s .now) (a .i + 1)) (length p)) (length p)) (after-source-label .source-label .ensures)
 
 pub source-place-spec : {M : Type 1} → statement M
 source-place-spec =

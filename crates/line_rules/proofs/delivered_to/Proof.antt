@@ -36,7 +36,9 @@ loop-less : tie.Need-loop-less Inv-loop μ-loop
 loop-less c = search needs
 
 loop-again : tie.Need-loop-again Inv-loop μ-loop
-loop-again c = (search needs, search needs, sumTo-more _ _ _ _ (c .before .before .before .loop .inv .2) (c .wide .ensures .0))
+loop-again c =
+    let at-loop = c .before .before .before in
+    (search needs, search needs, sumTo-more _ _ _ _ (at-loop .loop .inv .2) (c .wide .ensures .0))
 
 returns : tie.Need-returns Inv-loop μ-loop
 returns c = (sumTo-end _ _ _ _ (omega arith) (omega arith) (c .before .loop .inv .2), search needs)

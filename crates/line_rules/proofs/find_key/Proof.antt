@@ -34,7 +34,10 @@ same-key-requires : tie.Need-same-key-requires Inv-loop μ-loop
 same-key-requires c κs = search needs
 
 returns : tie.Need-returns Inv-loop μ-loop
-returns c = ap spotOf (sym (findTo-here _ _ (c .before .before .before .before .before .loop .i) (omega arith) (c .before .before .before .before .before .loop .inv .1) (sym (c .before .same-key .ensures) ∙ c .if1 .taken)))
+returns c =
+    let after-same-key = c .before in
+    let at-loop = after-same-key .before .before .before .before in
+    ap spotOf (sym (findTo-here _ _ (at-loop .loop .i) (omega arith) (at-loop .loop .inv .1) (sym (after-same-key .same-key .ensures) ∙ c .if1 .taken)))
 
 add-i : tie.Need-add-i Inv-loop μ-loop
 add-i c = search needs
@@ -43,7 +46,10 @@ loop-less : tie.Need-loop-less Inv-loop μ-loop
 loop-less c = search needs
 
 loop-again : tie.Need-loop-again Inv-loop μ-loop
-loop-again c = (search needs, findTo-more _ _ (c .before .before .before .before .before .loop .inv .1) (sym (c .before .same-key .ensures) ∙ c .if1 .left))
+loop-again c =
+    let after-same-key = c .before in
+    let at-loop = after-same-key .before .before .before .before in
+    (search needs, findTo-more _ _ (at-loop .loop .inv .1) (sym (after-same-key .same-key .ensures) ∙ c .if1 .left))
 
 returns-2 : tie.Need-returns-2 Inv-loop μ-loop
 returns-2 c = ap spotOf (sym (findTo-end _ _ (c .before .loop .i) (omega arith) (omega arith) (c .before .loop .inv .1)))

@@ -21,14 +21,25 @@ unfolding tried.pairFound
 returns c = rw (← (c .before .before .find-key .ensures), c .enum-told .given .1)
 
 mul-if1 : tie.Need-mul-if1
-mul-if1 c = omega (arith, spot-below _ _ _ _ (c .before .before .before .find-key .ensures) (c .before .i .given .1), c .before .before .before .before .pre .sources)
+mul-if1 c =
+    let after-i = c .before in
+    let after-find-key = after-i .before .before in
+    let start = after-find-key .before in
+    omega (arith, spot-below _ _ _ _ (after-find-key .find-key .ensures) (after-i .i .given .1), start .pre .sources)
 
 element-copy-out-if1 : tie.Need-element-copy-out-if1
-element-copy-out-if1 c = omega (arith, spot-below _ _ _ _ (c .before .before .before .find-key .ensures) (c .before .i .given .1), c .before .before .before .before .pre .sources)
+element-copy-out-if1 c =
+    let after-i = c .before in
+    let after-find-key = after-i .before .before in
+    let start = after-find-key .before in
+    omega (arith, spot-below _ _ _ _ (after-find-key .find-key .ensures) (after-i .i .given .1), start .pre .sources)
 
 returns-2 : tie.Need-returns-2
 unfolding tried.pairFound
-returns-2 c = rw (← (c .before .before .before .before .before .find-key .ensures), c .before .before .before .i .given .1, eq-eqb _ _ (c .if1 .taken))
+returns-2 c =
+    let after-i = c .before .before .before in
+    let after-find-key = after-i .before .before in
+    rw (← (after-find-key .find-key .ensures), after-i .i .given .1, eq-eqb _ _ (c .if1 .taken))
 
 find-key-requires-2 : tie.Need-find-key-requires-2
 find-key-requires-2 c κs = search needs
@@ -41,11 +52,22 @@ enum-told-2 c = search needs
 
 returns-3 : tie.Need-returns-3
 unfolding tried.pairFound
-returns-3 c = rw (← (c .before .before .before .before .before .before .before .before .find-key .ensures), c .before .before .before .before .before .before .i .given .1, ne-eqb _ _ (c .before .before .before .if1 .left), ← (c .before .before .find-key2 .ensures), c .enum-told2 .given .1)
+returns-3 c =
+    let after-find-key2 = c .before .before in
+    let if1-left = after-find-key2 .before in
+    let after-i = if1-left .before .before .before in
+    let after-find-key = after-i .before .before in
+    rw (← (after-find-key .find-key .ensures), after-i .i .given .1, ne-eqb _ _ (if1-left .if1 .left), ← (after-find-key2 .find-key2 .ensures), c .enum-told2 .given .1)
 
 returns-4 : tie.Need-returns-4
 unfolding tried.pairFound
-returns-4 c = rw (← (c .before .before .before .before .before .before .before .before .before .find-key .ensures), c .before .before .before .before .before .before .before .i .given .1, ne-eqb _ _ (c .before .before .before .before .if1 .left), ← (c .before .before .before .find-key2 .ensures), c .before .j .given .1)
+returns-4 c =
+    let after-j = c .before in
+    let after-find-key2 = after-j .before .before in
+    let if1-left = after-find-key2 .before in
+    let after-i = if1-left .before .before .before in
+    let after-find-key = after-i .before .before in
+    rw (← (after-find-key .find-key .ensures), after-i .i .given .1, ne-eqb _ _ (if1-left .if1 .left), ← (after-find-key2 .find-key2 .ensures), after-j .j .given .1)
 
 pub find-pair-spec : {M : Type 1} → statement M
 find-pair-spec =

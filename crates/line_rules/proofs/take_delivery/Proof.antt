@@ -17,7 +17,10 @@ take-label-requires c κs = search needs
 
 returns-2 : tie.Need-returns-2
 unfolding tried.deliveryTried
-returns-2 c = rw (← (c .before .before .before .next-line .ensures), eq-eqb _ _ (c .before .if1 .left)) (c .take-label .ensures)
+returns-2 c =
+    let if1-left = c .before in
+    let after-next-line = if1-left .before .before in
+    rw (← (after-next-line .next-line .ensures), eq-eqb _ _ (if1-left .if1 .left)) (c .take-label .ensures)
 
 pub take-delivery-spec : {M : Type 1} → statement M
 take-delivery-spec = tie.close (tie.spec next-line-requires returns take-label-requires returns-2)

@@ -18,7 +18,10 @@ returns c = rw (← (c .before .next-line .ensures), c .if1 .taken)
 
 returns-2 : tie.Need-returns-2
 unfolding tried.directTried
-returns-2 c = rw (← (c .before .before .before .next-line .ensures), c .before .before .if1 .left, le-leb _ _ (c .if2 .taken))
+returns-2 c =
+    let if1-left = c .before .before in
+    let after-next-line = if1-left .before in
+    rw (← (after-next-line .next-line .ensures), if1-left .if1 .left, le-leb _ _ (c .if2 .taken))
 
 find-pair-requires : tie.Need-find-pair-requires
 find-pair-requires c κs = search needs
@@ -31,32 +34,68 @@ enum-told c = search needs
 
 returns-3 : tie.Need-returns-3
 unfolding tried.directTried
-returns-3 c = rw (← (c .before .before .before .before .before .before .next-line .ensures), c .before .before .before .before .before .if1 .left, lt-leb _ _ (c .before .before .before .if2 .left), ← (c .before .before .find-pair .ensures), c .enum-told .given .1)
+returns-3 c =
+    let after-find-pair = c .before .before in
+    let if2-left = after-find-pair .before in
+    let if1-left = if2-left .before .before in
+    let after-next-line = if1-left .before in
+    rw (← (after-next-line .next-line .ensures), if1-left .if1 .left, lt-leb _ _ (if2-left .if2 .left), ← (after-find-pair .find-pair .ensures), c .enum-told .given .1)
 
 mul-basis-allowed : tie.Need-mul-basis-allowed
-mul-basis-allowed c = omega (arith, pair-within _ _ _ _ _ _ _ _ _ (sym (c .before .before .before .find-pair .ensures) ∙ c .before .i .given .1) .source, c .before .before .before .before .before .before .before .before .pre .sources)
+mul-basis-allowed c =
+    let after-i = c .before in
+    let after-find-pair = after-i .before .before in
+    let start = after-find-pair .before .before .before .before .before in
+    omega (arith, pair-within _ _ _ _ _ _ _ _ _ (sym (after-find-pair .find-pair .ensures) ∙ after-i .i .given .1) .source, start .pre .sources)
 
 element-copy-out-basis-allowed : tie.Need-element-copy-out-basis-allowed
-element-copy-out-basis-allowed c = omega (arith, pair-within _ _ _ _ _ _ _ _ _ (sym (c .before .before .before .find-pair .ensures) ∙ c .before .i .given .1) .source, c .before .before .before .before .before .before .before .before .pre .sources)
+element-copy-out-basis-allowed c =
+    let after-i = c .before in
+    let after-find-pair = after-i .before .before in
+    let start = after-find-pair .before .before .before .before .before in
+    omega (arith, pair-within _ _ _ _ _ _ _ _ _ (sym (after-find-pair .find-pair .ensures) ∙ after-i .i .given .1) .source, start .pre .sources)
 
 mul-basis-allowed-2 : tie.Need-mul-basis-allowed-2
-mul-basis-allowed-2 c = omega (arith, pair-within _ _ _ _ _ _ _ _ _ (sym (c .before .before .before .before .find-pair .ensures) ∙ c .before .before .i .given .1) .source, c .before .before .before .before .before .before .before .before .before .pre .sources)
+mul-basis-allowed-2 c =
+    let after-i = c .before .before in
+    let after-find-pair = after-i .before .before in
+    let start = after-find-pair .before .before .before .before .before in
+    omega (arith, pair-within _ _ _ _ _ _ _ _ _ (sym (after-find-pair .find-pair .ensures) ∙ after-i .i .given .1) .source, start .pre .sources)
 
 element-copy-out-basis-allowed-2 : tie.Need-element-copy-out-basis-allowed-2
-element-copy-out-basis-allowed-2 c = omega (arith, pair-within _ _ _ _ _ _ _ _ _ (sym (c .before .before .before .before .find-pair .ensures) ∙ c .before .before .i .given .1) .source, c .before .before .before .before .before .before .before .before .before .pre .sources)
+element-copy-out-basis-allowed-2 c =
+    let after-i = c .before .before in
+    let after-find-pair = after-i .before .before in
+    let start = after-find-pair .before .before .before .before .before in
+    omega (arith, pair-within _ _ _ _ _ _ _ _ _ (sym (after-find-pair .find-pair .ensures) ∙ after-i .i .given .1) .source, start .pre .sources)
 
 basis-allowed-requires : tie.Need-basis-allowed-requires
 basis-allowed-requires c κs = search needs
 
 returns-4 : tie.Need-returns-4
 unfolding tried.directTried
-returns-4 c = rw (← (c .before .before .before .before .before .before .before .before .before .before .before .next-line .ensures), c .before .before .before .before .before .before .before .before .before .before .if1 .left, lt-leb _ _ (c .before .before .before .before .before .before .before .before .if2 .left), ← (c .before .before .before .before .before .before .before .find-pair .ensures), c .before .before .before .before .before .i .given .1, sym (c .before .basis-allowed .ensures) ∙ not-true _ (c .if3 .taken))
+returns-4 c =
+    let after-basis-allowed = c .before in
+    let after-i = after-basis-allowed .before .before .before .before in
+    let after-find-pair = after-i .before .before in
+    let if2-left = after-find-pair .before in
+    let if1-left = if2-left .before .before in
+    let after-next-line = if1-left .before in
+    rw (← (after-next-line .next-line .ensures), if1-left .if1 .left, lt-leb _ _ (if2-left .if2 .left), ← (after-find-pair .find-pair .ensures), after-i .i .given .1, sym (after-basis-allowed .basis-allowed .ensures) ∙ not-true _ (c .if3 .taken))
 
 mul-wide : tie.Need-mul-wide
-mul-wide c = omega (arith, pair-within _ _ _ _ _ _ _ _ _ (sym (c .before .before .before .before .before .before .before .find-pair .ensures) ∙ c .before .before .before .before .before .i .given .1) .source, c .before .before .before .before .before .before .before .before .before .before .before .before .pre .sources)
+mul-wide c =
+    let after-i = c .before .before .before .before .before in
+    let after-find-pair = after-i .before .before in
+    let start = after-find-pair .before .before .before .before .before in
+    omega (arith, pair-within _ _ _ _ _ _ _ _ _ (sym (after-find-pair .find-pair .ensures) ∙ after-i .i .given .1) .source, start .pre .sources)
 
 element-copy-out-wide : tie.Need-element-copy-out-wide
-element-copy-out-wide c = omega (arith, pair-within _ _ _ _ _ _ _ _ _ (sym (c .before .before .before .before .before .before .before .find-pair .ensures) ∙ c .before .before .before .before .before .i .given .1) .source, c .before .before .before .before .before .before .before .before .before .before .before .before .pre .sources)
+element-copy-out-wide c =
+    let after-i = c .before .before .before .before .before in
+    let after-find-pair = after-i .before .before in
+    let start = after-find-pair .before .before .before .before .before in
+    omega (arith, pair-within _ _ _ _ _ _ _ _ _ (sym (after-find-pair .find-pair .ensures) ∙ after-i .i .given .1) .source, start .pre .sources)
 
 wide-requires : tie.Need-wide-requires
 wide-requires c κs = search needs
@@ -69,11 +108,31 @@ add-if4 c = search needs
 
 returns-5 : tie.Need-returns-5
 unfolding tried.directTried
-returns-5 c = rw (← (c .before .before .before .before .before .before .before .before .before .before .before .before .before .before .before .next-line .ensures), c .before .before .before .before .before .before .before .before .before .before .before .before .before .before .if1 .left, lt-leb _ _ (c .before .before .before .before .before .before .before .before .before .before .before .before .if2 .left), ← (c .before .before .before .before .before .before .before .before .before .before .before .find-pair .ensures), c .before .before .before .before .before .before .before .before .before .i .given .1, sym (c .before .before .before .before .before .basis-allowed .ensures) ∙ not-false _ (c .before .before .before .before .if3 .left), sum-above {a = 100} refl (c .before .before .wide .ensures .0) (c .before .wide2 .ensures .0) (c .if4 .taken))
+returns-5 c =
+    let after-wide2 = c .before in
+    let after-wide = after-wide2 .before in
+    let if3-left = after-wide .before .before in
+    let after-basis-allowed = if3-left .before in
+    let after-i = after-basis-allowed .before .before .before .before in
+    let after-find-pair = after-i .before .before in
+    let if2-left = after-find-pair .before in
+    let if1-left = if2-left .before .before in
+    let after-next-line = if1-left .before in
+    rw (← (after-next-line .next-line .ensures), if1-left .if1 .left, lt-leb _ _ (if2-left .if2 .left), ← (after-find-pair .find-pair .ensures), after-i .i .given .1, sym (after-basis-allowed .basis-allowed .ensures) ∙ not-false _ (if3-left .if3 .left), sum-above {a = 100} refl (after-wide .wide .ensures .0) (after-wide2 .wide2 .ensures .0) (c .if4 .taken))
 
 returns-6 : tie.Need-returns-6
 unfolding tried.directTried
-returns-6 c = rw (← (c .before .before .before .before .before .before .before .before .before .before .before .before .before .before .before .next-line .ensures), c .before .before .before .before .before .before .before .before .before .before .before .before .before .before .if1 .left, lt-leb _ _ (c .before .before .before .before .before .before .before .before .before .before .before .before .if2 .left), ← (c .before .before .before .before .before .before .before .before .before .before .before .find-pair .ensures), c .before .before .before .before .before .before .before .before .before .i .given .1, sym (c .before .before .before .before .before .basis-allowed .ensures) ∙ not-false _ (c .before .before .before .before .if3 .left), sum-within {a = 100} refl (c .before .before .wide .ensures .0) (c .before .wide2 .ensures .0) (c .if4 .left))
+returns-6 c =
+    let after-wide2 = c .before in
+    let after-wide = after-wide2 .before in
+    let if3-left = after-wide .before .before in
+    let after-basis-allowed = if3-left .before in
+    let after-i = after-basis-allowed .before .before .before .before in
+    let after-find-pair = after-i .before .before in
+    let if2-left = after-find-pair .before in
+    let if1-left = if2-left .before .before in
+    let after-next-line = if1-left .before in
+    rw (← (after-next-line .next-line .ensures), if1-left .if1 .left, lt-leb _ _ (if2-left .if2 .left), ← (after-find-pair .find-pair .ensures), after-i .i .given .1, sym (after-basis-allowed .basis-allowed .ensures) ∙ not-false _ (if3-left .if3 .left), sum-within {a = 100} refl (after-wide .wide .ensures .0) (after-wide2 .wide2 .ensures .0) (c .if4 .left))
 
 pub take-direct-spec : {M : Type 1} → statement M
 take-direct-spec =

@@ -21,14 +21,23 @@ enum-known-i c = search needs
 
 returns-3 : tie.Need-returns-3
 unfolding tried.labelTried
-returns-3 c = rw (c .before .before .before .before .before .if1 .left, lt-leb 32 _ (c .before .before .before .before .if2 .left), ← (c .before .before .before .find-key .ensures), c .before .i .given .1)
+returns-3 c =
+    let after-i = c .before in
+    let after-find-key = after-i .before .before in
+    let if2-left = after-find-key .before in
+    let if1-left = if2-left .before in
+    rw (if1-left .if1 .left, lt-leb 32 _ (if2-left .if2 .left), ← (after-find-key .find-key .ensures), after-i .i .given .1)
 
 enum-told : tie.Need-enum-told
 enum-told c = search needs
 
 returns-4 : tie.Need-returns-4
 unfolding tried.labelTried
-returns-4 c = rw (c .before .before .before .before .if1 .left, lt-leb 32 _ (c .before .before .before .if2 .left), ← (c .before .before .find-key .ensures), c .enum-told .given .1)
+returns-4 c =
+    let after-find-key = c .before .before in
+    let if2-left = after-find-key .before in
+    let if1-left = if2-left .before in
+    rw (if1-left .if1 .left, lt-leb 32 _ (if2-left .if2 .left), ← (after-find-key .find-key .ensures), c .enum-told .given .1)
 
 pub take-label-spec : {M : Type 1} → statement M
 take-label-spec =

@@ -19,25 +19,51 @@ within-requires c κs = search needs
 
 returns-2 : tie.Need-returns-2
 unfolding lines.ranged tests.deliveryInside
-returns-2 c = rw (sym (c .before .before .before .up-to .ensures) ∙ not-false _ (c .before .before .if1 .left), sym (c .before .within .ensures) ∙ not-true _ (c .if2 .taken))
+returns-2 c =
+    let after-within = c .before in
+    let if1-left = after-within .before in
+    let after-up-to = if1-left .before in
+    rw (sym (after-up-to .up-to .ensures) ∙ not-false _ (if1-left .if1 .left), sym (after-within .within .ensures) ∙ not-true _ (c .if2 .taken))
 
 within-requires-2 : tie.Need-within-requires-2
 within-requires-2 c κs = search needs
 
 returns-3 : tie.Need-returns-3
 unfolding lines.ranged tests.deliveryInside
-returns-3 c = rw (sym (c .before .before .before .before .before .up-to .ensures) ∙ not-false _ (c .before .before .before .before .if1 .left), sym (c .before .before .before .within .ensures) ∙ not-false _ (c .before .before .if2 .left), sym (c .before .within2 .ensures) ∙ not-true _ (c .if3 .taken))
+returns-3 c =
+    let after-within2 = c .before in
+    let if2-left = after-within2 .before in
+    let after-within = if2-left .before in
+    let if1-left = after-within .before in
+    let after-up-to = if1-left .before in
+    rw (sym (after-up-to .up-to .ensures) ∙ not-false _ (if1-left .if1 .left), sym (after-within .within .ensures) ∙ not-false _ (if2-left .if2 .left), sym (after-within2 .within2 .ensures) ∙ not-true _ (c .if3 .taken))
 
 up-to-requires-2 : tie.Need-up-to-requires-2
 up-to-requires-2 c κs = search needs
 
 returns-4 : tie.Need-returns-4
 unfolding lines.ranged tests.deliveryInside
-returns-4 c = rw (sym (c .before .before .before .before .before .before .before .up-to .ensures) ∙ not-false _ (c .before .before .before .before .before .before .if1 .left), sym (c .before .before .before .before .before .within .ensures) ∙ not-false _ (c .before .before .before .before .if2 .left), sym (c .before .before .before .within2 .ensures) ∙ not-false _ (c .before .before .if3 .left), sym (c .before .up-to2 .ensures) ∙ not-true _ (c .if4 .taken))
+returns-4 c =
+    let after-up-to2 = c .before in
+    let if3-left = after-up-to2 .before in
+    let after-within2 = if3-left .before in
+    let if2-left = after-within2 .before in
+    let after-within = if2-left .before in
+    let if1-left = after-within .before in
+    let after-up-to = if1-left .before in
+    rw (sym (after-up-to .up-to .ensures) ∙ not-false _ (if1-left .if1 .left), sym (after-within .within .ensures) ∙ not-false _ (if2-left .if2 .left), sym (after-within2 .within2 .ensures) ∙ not-false _ (if3-left .if3 .left), sym (after-up-to2 .up-to2 .ensures) ∙ not-true _ (c .if4 .taken))
 
 returns-5 : tie.Need-returns-5
 unfolding lines.ranged tests.deliveryInside
-returns-5 c = rw (sym (c .before .before .before .before .before .before .before .up-to .ensures) ∙ not-false _ (c .before .before .before .before .before .before .if1 .left), sym (c .before .before .before .before .before .within .ensures) ∙ not-false _ (c .before .before .before .before .if2 .left), sym (c .before .before .before .within2 .ensures) ∙ not-false _ (c .before .before .if3 .left), sym (c .before .up-to2 .ensures) ∙ not-false _ (c .if4 .left))
+returns-5 c =
+    let after-up-to2 = c .before in
+    let if3-left = after-up-to2 .before in
+    let after-within2 = if3-left .before in
+    let if2-left = after-within2 .before in
+    let after-within = if2-left .before in
+    let if1-left = after-within .before in
+    let after-up-to = if1-left .before in
+    rw (sym (after-up-to .up-to .ensures) ∙ not-false _ (if1-left .if1 .left), sym (after-within .within .ensures) ∙ not-false _ (if2-left .if2 .left), sym (after-within2 .within2 .ensures) ∙ not-false _ (if3-left .if3 .left), sym (after-up-to2 .up-to2 .ensures) ∙ not-false _ (c .if4 .left))
 
 pub delivery-in-range-spec : {M : Type 1} → statement M
 delivery-in-range-spec =

@@ -19,11 +19,19 @@ within-requires c κs = search needs
 
 returns-2 : tie.Need-returns-2
 unfolding lines.ranged tests.directInside
-returns-2 c = rw (sym (c .before .before .before .basis-in-range .ensures) ∙ not-false _ (c .before .before .if1 .left), sym (c .before .within .ensures) ∙ not-true _ (c .if2 .taken))
+returns-2 c =
+    let after-within = c .before in
+    let if1-left = after-within .before in
+    let after-basis-in-range = if1-left .before in
+    rw (sym (after-basis-in-range .basis-in-range .ensures) ∙ not-false _ (if1-left .if1 .left), sym (after-within .within .ensures) ∙ not-true _ (c .if2 .taken))
 
 returns-3 : tie.Need-returns-3
 unfolding lines.ranged tests.directInside
-returns-3 c = rw (sym (c .before .before .before .basis-in-range .ensures) ∙ not-false _ (c .before .before .if1 .left), sym (c .before .within .ensures) ∙ not-false _ (c .if2 .left))
+returns-3 c =
+    let after-within = c .before in
+    let if1-left = after-within .before in
+    let after-basis-in-range = if1-left .before in
+    rw (sym (after-basis-in-range .basis-in-range .ensures) ∙ not-false _ (if1-left .if1 .left), sym (after-within .within .ensures) ∙ not-false _ (c .if2 .left))
 
 pub direct-in-range-spec : {M : Type 1} → statement M
 direct-in-range-spec =

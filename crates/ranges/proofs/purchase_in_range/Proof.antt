@@ -19,11 +19,19 @@ up-to-requires-2 c κs = search needs
 
 returns-2 : tie.Need-returns-2
 unfolding lines.ranged tests.plantInside
-returns-2 c = rw (sym (c .before .before .before .up-to .ensures) ∙ not-false _ (c .before .before .if1 .left), sym (c .before .up-to2 .ensures) ∙ not-true _ (c .if2 .taken))
+returns-2 c =
+    let after-up-to2 = c .before in
+    let if1-left = after-up-to2 .before in
+    let after-up-to = if1-left .before in
+    rw (sym (after-up-to .up-to .ensures) ∙ not-false _ (if1-left .if1 .left), sym (after-up-to2 .up-to2 .ensures) ∙ not-true _ (c .if2 .taken))
 
 returns-3 : tie.Need-returns-3
 unfolding lines.ranged tests.plantInside
-returns-3 c = rw (sym (c .before .before .before .up-to .ensures) ∙ not-false _ (c .before .before .if1 .left), sym (c .before .up-to2 .ensures) ∙ not-false _ (c .if2 .left))
+returns-3 c =
+    let after-up-to2 = c .before in
+    let if1-left = after-up-to2 .before in
+    let after-up-to = if1-left .before in
+    rw (sym (after-up-to .up-to .ensures) ∙ not-false _ (if1-left .if1 .left), sym (after-up-to2 .up-to2 .ensures) ∙ not-false _ (c .if2 .left))
 
 pub purchase-in-range-spec : {M : Type 1} → statement M
 purchase-in-range-spec =

@@ -1,4 +1,4 @@
--- `text::basis_at` meets its contract: each return is one case of `basisAt`.
+-- `read_fields::basis_at` meets its contract: each return is one case of `basisAt`.
 use mathlib.Core.Path.{sym, _∙_}
 use native.Mathlib.Omega.{arith}
 use Rattle.rules.specs.Fields as fields
@@ -8,47 +8,56 @@ use borrow.Author.Needs.{needs}
 use Rattle.read_fields.proofs.basis_at.Statement.{statement}
 use Rattle.read_fields.proofs.basis_at.Tie as tie
 
--- src/lib.rt:151:9
 peek-requires : tie.Need-peek-requires
 peek-requires c κs = search needs
 
--- src/lib.rt:153:46
 add-t8 : tie.Need-add-t8
-add-t8 c = omega (arith, byte-inside (c .before .before .before .args .s .now) (c .before .before .before .args .at) (omega (arith, c .before .peek .ensures, c .if1 .taken)))
+add-t8 c =
+    let after-peek = c .before in
+    let start = after-peek .before .before in
+    omega (arith, byte-inside (start .args .s .now) (start .args .at) (omega (arith, after-peek .peek .ensures, c .if1 .taken)))
 
--- src/lib.rt:153:9
 returns : tie.Need-returns
 unfolding fields.basisAt
 returns c = rw (sym (c .before .peek .ensures) ∙ c .if1 .taken)
 
--- src/lib.rt:156:53
 add-t10 : tie.Need-add-t10
-add-t10 c = omega (arith, byte-inside (c .before .before .before .before .args .s .now) (c .before .before .before .before .args .at) (omega (arith, c .before .before .peek .ensures, c .if2 .taken)))
+add-t10 c =
+    let after-peek = c .before .before in
+    let start = after-peek .before .before in
+    omega (arith, byte-inside (start .args .s .now) (start .args .at) (omega (arith, after-peek .peek .ensures, c .if2 .taken)))
 
--- src/lib.rt:156:9
 returns-2 : tie.Need-returns-2
 unfolding fields.basisAt
 returns-2 c = rw (sym (c .before .before .peek .ensures) ∙ c .if2 .taken)
 
--- src/lib.rt:158:40
 number-requires : tie.Need-number-requires
 number-requires c κs = search needs
 
--- src/lib.rt:158:29
 enum-known-v : tie.Need-enum-known-v
 enum-known-v c = search needs
 
--- src/lib.rt:159:9
 enum-told : tie.Need-enum-told
 enum-told c = search needs
 
--- src/lib.rt:159:9
 returns-3 : tie.Need-returns-3
-returns-3 c = rw (basis-number (c .before .before .before .before .before .before .before .args .s .now) (c .before .before .before .before .before .before .before .args .at) (λ e. c .before .before .before .before .if1 .left (c .before .before .before .before .before .peek .ensures ∙ e)) (λ e. c .before .before .before .if2 .left (c .before .before .before .before .before .peek .ensures ∙ e)), ← (c .before .before .number .ensures), c .enum-told .given .1)
+returns-3 c =
+    let after-number = c .before .before in
+    let if2-left = after-number .before in
+    let if1-left = if2-left .before in
+    let after-peek = if1-left .before in
+    let start = after-peek .before .before in
+    rw (basis-number (start .args .s .now) (start .args .at) (λ e. if1-left .if1 .left (after-peek .peek .ensures ∙ e)) (λ e. if2-left .if2 .left (after-peek .peek .ensures ∙ e)), ← (after-number .number .ensures), c .enum-told .given .1)
 
--- src/lib.rt:148:1
 returns-4 : tie.Need-returns-4
-returns-4 c = rw (basis-number (c .before .before .before .before .before .before .before .before .args .s .now) (c .before .before .before .before .before .before .before .before .args .at) (λ e. c .before .before .before .before .before .if1 .left (c .before .before .before .before .before .before .peek .ensures ∙ e)) (λ e. c .before .before .before .before .if2 .left (c .before .before .before .before .before .before .peek .ensures ∙ e)), ← (c .before .before .before .number .ensures), c .before .v .given .1)
+returns-4 c =
+    let after-v = c .before in
+    let after-number = after-v .before .before in
+    let if2-left = after-number .before in
+    let if1-left = if2-left .before in
+    let after-peek = if1-left .before in
+    let start = after-peek .before .before in
+    rw (basis-number (start .args .s .now) (start .args .at) (λ e. if1-left .if1 .left (after-peek .peek .ensures ∙ e)) (λ e. if2-left .if2 .left (after-peek .peek .ensures ∙ e)), ← (after-number .number .ensures), after-v .v .given .1)
 
 pub basis-at-spec : {M : Type 1} → statement M
 basis-at-spec =

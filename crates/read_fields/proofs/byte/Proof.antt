@@ -1,4 +1,4 @@
--- `text::byte` meets its contract: the tests that led to each return are those of `byteAt`.
+-- `read_fields::byte` meets its contract: the tests that led to each return are those of `byteAt`.
 use mathlib.Core.Path.{ap, sym}
 use Rattle.rules.specs.Fields as fields
 use Rattle.read_fields.specs.Answers.{stepOf}
@@ -8,24 +8,19 @@ use borrow.Author.Needs.{needs}
 use Rattle.read_fields.proofs.byte.Statement.{statement}
 use Rattle.read_fields.proofs.byte.Tie as tie
 
--- src/lib.rt:62:9
 returns : tie.Need-returns
 returns c = ap stepOf (sym (byte-missing (c .before .args .s .now) (c .before .args .at) (c .before .args .b) (c .before .pre) (c .if1 .taken)))
 
--- src/lib.rt:64:8
 shared-slice-read-if2 : tie.Need-shared-slice-read-if2
 shared-slice-read-if2 c = search needs
 
--- src/lib.rt:65:9
 returns-2 : tie.Need-returns-2
 unfolding fields.byteAt
 returns-2 c = search tests
 
--- src/lib.rt:67:14
 add-t4 : tie.Need-add-t4
 add-t4 c = search needs
 
--- src/lib.rt:57:1
 returns-3 : tie.Need-returns-3
 unfolding fields.byteAt
 returns-3 c = search tests

@@ -1,17 +1,14 @@
--- `text::closed` meets its contract: the tests that led to each return are those of `closed`.
+-- `read_fields::closed` meets its contract: the tests that led to each return are those of `closed`.
 use Rattle.read_fields.proofs.Tests.{tests}
 use Rattle.read_fields.proofs.closed.Statement.{statement}
 use Rattle.read_fields.proofs.closed.Tie as tie
 
--- src/lib.rt:207:9
 returns : tie.Need-returns
 returns c = search tests
 
--- src/lib.rt:210:9
 returns-2 : tie.Need-returns-2
 returns-2 c = search tests
 
--- src/lib.rt:203:1
 returns-3 : tie.Need-returns-3
 returns-3 c = search tests
 

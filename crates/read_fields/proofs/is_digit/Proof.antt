@@ -1,17 +1,14 @@
--- `text::is_digit` meets its contract: the tests that led to each return are those of `isDigit`.
+-- `read_fields::is_digit` meets its contract: the tests that led to each return are those of `isDigit`.
 use Rattle.read_fields.proofs.Tests.{tests}
 use Rattle.read_fields.proofs.is_digit.Statement.{statement}
 use Rattle.read_fields.proofs.is_digit.Tie as tie
 
--- src/lib.rt:77:9
 returns : tie.Need-returns
 returns c = search tests
 
--- src/lib.rt:80:9
 returns-2 : tie.Need-returns-2
 returns-2 c = search tests
 
--- src/lib.rt:73:1
 returns-3 : tie.Need-returns-3
 returns-3 c = search tests
 

@@ -1,17 +1,14 @@
--- `text::is_escaped` meets its contract: the tests that led to each return are those of `isEscaped`.
+-- `read_fields::is_escaped` meets its contract: the tests that led to each return are those of `isEscaped`.
 use Rattle.read_fields.proofs.Tests.{tests}
 use Rattle.read_fields.proofs.is_escaped.Statement.{statement}
 use Rattle.read_fields.proofs.is_escaped.Tie as tie
 
--- src/lib.rt:194:9
 returns : tie.Need-returns
 returns c = search tests
 
--- src/lib.rt:197:9
 returns-2 : tie.Need-returns-2
 returns-2 c = search tests
 
--- src/lib.rt:190:1
 returns-3 : tie.Need-returns-3
 returns-3 c = search tests
 

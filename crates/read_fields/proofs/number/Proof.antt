@@ -1,4 +1,4 @@
--- `text::number` meets its contract: each return is one case of `numberAt`.
+-- `read_fields::number` meets its contract: each return is one case of `numberAt`.
 use Prim.Native.Nat.{_+_, _<_, _≤_}
 use mathlib.Core.Path.{_≡_, ap, sym, _∙_}
 use mathlib.Core.Bool.{true}
@@ -14,77 +14,96 @@ use borrow.Author.Needs.{needs}
 use Rattle.read_fields.proofs.number.Statement.{statement}
 use Rattle.read_fields.proofs.number.Tie as tie
 
-first : (c : tie.Else1) → isDigit (getD (c .before .before .before .before .args .s .now) (c .before .before .before .before .args .at) 0) ≡ true
-first c = ap isDigit (sym (c .before .before .peek .ensures)) ∙ sym (c .before .is-digit .ensures) ∙ not-false _ (c .if1 .left)
+first : (c : tie.Else1) → let start = c .before .before .before .before in isDigit (getD (start .args .s .now) (start .args .at) 0) ≡ true
+first c =
+    let after-is-digit = c .before in
+    let after-peek = after-is-digit .before in
+    ap isDigit (sym (after-peek .peek .ensures)) ∙ sym (after-is-digit .is-digit .ensures) ∙ not-false _ (c .if1 .left)
 
-bounds : (c : tie.Else1) → (48 ≤ getD (c .before .before .before .before .args .s .now) (c .before .before .before .before .args .at) 0) × (getD (c .before .before .before .before .args .s .now) (c .before .before .before .before .args .at) 0 ≤ 57)
-bounds c = digit-from _ (first c)
+bounds : (c : tie.Else1) → let start = c .before .before .before .before in (48 ≤ getD (start .args .s .now) (start .args .at) 0) × (getD (start .args .s .now) (start .args .at) 0 ≤ 57)
+bounds c =
+    digit-from _ (first c)
 
-inside : (c : tie.Else1) → c .before .before .before .before .args .at < length (c .before .before .before .before .args .s .now)
-inside c = let s = c .before .before .before .before .args .s .now in let at = c .before .before .before .before .args .at in byte-inside s at (digit-inside s at (first c))
+inside : (c : tie.Else1) → let start = c .before .before .before .before in start .args .at < length (start .args .s .now)
+inside c =
+    let start = c .before .before .before .before in
+    let s = start .args .s .now in let at = start .args .at in byte-inside s at (digit-inside s at (first c))
 
-second : (c : tie.After-is-digit2) → isDigit (getD (c .before .before .before .before .before .before .before .args .s .now) (c .before .before .before .before .before .before .before .args .at + 1) 0) ≡ c .is-digit2 .result
-second c = ap isDigit (sym (c .before .peek2 .ensures)) ∙ sym (c .is-digit2 .ensures)
+second : (c : tie.After-is-digit2) → let start = c .before .before .before .before .before .before .before in isDigit (getD (start .args .s .now) (start .args .at + 1) 0) ≡ c .is-digit2 .result
+second c =
+    let after-peek2 = c .before in
+    ap isDigit (sym (after-peek2 .peek2 .ensures)) ∙ sym (c .is-digit2 .ensures)
 
--- src/lib.rt:121:9
 peek-requires : tie.Need-peek-requires
 peek-requires c κs = search needs
 
--- src/lib.rt:122:9
 is-digit-requires : tie.Need-is-digit-requires
 is-digit-requires c κs = search needs
 
--- src/lib.rt:123:9
 returns : tie.Need-returns
-returns c = ap numberField (sym (number-none (c .before .before .before .before .args .s .now) (c .before .before .before .before .args .at) (ap isDigit (sym (c .before .before .peek .ensures)) ∙ sym (c .before .is-digit .ensures) ∙ not-true _ (c .if1 .taken))))
+returns c =
+    let after-is-digit = c .before in
+    let after-peek = after-is-digit .before in
+    let start = after-peek .before .before in
+    ap numberField (sym (number-none (start .args .s .now) (start .args .at) (ap isDigit (sym (after-peek .peek .ensures)) ∙ sym (after-is-digit .is-digit .ensures) ∙ not-true _ (c .if1 .taken))))
 
--- src/lib.rt:126:30
 add-peek : tie.Need-add-peek
 add-peek c = omega (arith, inside (c .before))
 
--- src/lib.rt:126:13
 peek-requires-2 : tie.Need-peek-requires-2
 peek-requires-2 c κs = search needs
 
--- src/lib.rt:127:12
 is-digit-requires-2 : tie.Need-is-digit-requires-2
 is-digit-requires-2 c κs = search needs
 
--- src/lib.rt:128:13
 returns-2 : tie.Need-returns-2
 returns-2 c =
+    let after-is-digit2 = c .before in
+    let if2-taken = after-is-digit2 .before .before in
+    let after-peek = if2-taken .before .before .before in
+    let start = after-peek .before .before in
     ap numberField
-    (sym (number-zeros (c .before .before .before .before .before .before .before .before .args .s .now) (c .before .before .before .before .before .before .before .before .args .at) (sym (c .before .before .before .before .before .before .peek .ensures) ∙ c .before .before .before .if2 .taken) (second (c .before) ∙ c .if3 .taken)))
+    (sym (number-zeros (start .args .s .now) (start .args .at) (sym (after-peek .peek .ensures) ∙ if2-taken .if2 .taken) (second after-is-digit2 ∙ c .if3 .taken)))
 
--- src/lib.rt:130:39
 add-t7 : tie.Need-add-t7
-add-t7 c = omega (arith, inside (c .before .before .before .before))
+add-t7 c =
+    let if1-left = c .before .before .before .before in
+    omega (arith, inside if1-left)
 
--- src/lib.rt:130:9
 returns-3 : tie.Need-returns-3
 returns-3 c =
+    let after-is-digit2 = c .before in
+    let if2-taken = after-is-digit2 .before .before in
+    let after-peek = if2-taken .before .before .before in
+    let start = after-peek .before .before in
     ap numberField
-    (sym (number-zero (c .before .before .before .before .before .before .before .before .args .s .now) (c .before .before .before .before .before .before .before .before .args .at) (sym (c .before .before .before .before .before .before .peek .ensures) ∙ c .before .before .before .if2 .taken) (second (c .before) ∙ c .if3 .left)))
+    (sym (number-zero (start .args .s .now) (start .args .at) (sym (after-peek .peek .ensures) ∙ if2-taken .if2 .taken) (second after-is-digit2 ∙ c .if3 .left)))
 
--- src/lib.rt:132:15
 add-run-on : tie.Need-add-run-on
 add-run-on c = omega (arith, inside (c .before))
 
--- src/lib.rt:132:23
+sub-wide : tie.Need-sub-wide
+sub-wide c =
+    let if1-left = c .before in
+    let after-peek = if1-left .before .before in
+    omega (arith, bounds if1-left, after-peek .peek .ensures)
+
 wide-requires : tie.Need-wide-requires
 wide-requires c κs = search needs
 
--- src/lib.rt:132:23
-sub-run-on : tie.Need-sub-run-on
-sub-run-on c = omega (arith, bounds (c .before .before), c .before .before .before .before .peek .ensures, c .wide .ensures)
-
--- src/lib.rt:132:5
 run-on-requires : tie.Need-run-on-requires
-run-on-requires c κs = omega (arith, bounds (c .before .before), c .before .before .before .before .peek .ensures, c .wide .ensures)
+run-on-requires c κs =
+    let if1-left = c .before .before in
+    let after-peek = if1-left .before .before in
+    omega (arith, bounds if1-left, after-peek .peek .ensures, c .wide .ensures)
 
--- src/lib.rt:118:1
 returns-4 : tie.Need-returns-4
-returns-4 c = cc (number-run (c .before .before .before .before .before .before .before .args .s .now) (c .before .before .before .before .before .before .before .args .at) (first (c .before .before .before)) (λ e. c .before .before .if2 .left (c .before .before .before .before .before .peek .ensures ∙ e)))
+returns-4 c =
+    let if2-left = c .before .before in
+    let if1-left = if2-left .before in
+    let after-peek = if1-left .before .before in
+    let start = after-peek .before .before in
+    cc (number-run (start .args .s .now) (start .args .at) (first if1-left) (λ e. if2-left .if2 .left (after-peek .peek .ensures ∙ e)))
 
 pub number-spec : {M : Type 1} → statement M
 number-spec =
@@ -100,7 +119,7 @@ number-spec =
     add-t7
     returns-3
     add-run-on
+    sub-wide
     wide-requires
-    sub-run-on
     run-on-requires
     returns-4)

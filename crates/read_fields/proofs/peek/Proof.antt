@@ -1,19 +1,16 @@
--- `text::peek` meets its contract: past the end a list gives its default.
+-- `read_fields::peek` meets its contract: past the end a list gives its default.
 use mathlib.Core.Path.{sym}
 use lib.ListN.{List·getD-eq-default}
 use borrow.Author.Needs.{needs}
 use Rattle.read_fields.proofs.peek.Statement.{statement}
 use Rattle.read_fields.proofs.peek.Tie as tie
 
--- src/lib.rt:51:9
 returns : tie.Need-returns
 returns c = sym (List·getD-eq-default (c .before .args .s .now) 0 (c .if1 .taken))
 
--- src/lib.rt:53:5
 shared-slice-read-result : tie.Need-shared-slice-read-result
 shared-slice-read-result c = search needs
 
--- src/lib.rt:47:1
 returns-2 : tie.Need-returns-2
 returns-2 c = search needs
 

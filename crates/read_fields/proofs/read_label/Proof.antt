@@ -1,4 +1,4 @@
--- `text::read_label` meets its contract: reading on from here gives what reading from the opening quote gives.
+-- `read_fields::read_label` meets its contract: reading on from here gives what reading from the opening quote gives.
 use Prim.Native.Nat.{_+_, _-_, _<_, _≤_}
 use mathlib.Core.Path.{_≡_, ap, sym, _∙_}
 use mathlib.Core.Bool.{false}
@@ -19,110 +19,125 @@ Inv-loop part n₀ i₀ n i = (n ≤ i) × (closing false n i (drop i part) ≡ 
 abbrev μ-loop : tie.MeasureT-loop
 μ-loop part n₀ i₀ n i = length part - i
 
-escaped : (c : tie.After-is-escaped Inv-loop μ-loop) → isEscaped (getD (c .before .before .before .before .before .before .before .before .before .before .args .part .now) (c .before .before .before .before .before .before .loop .i + 1) 0) ≡ c .is-escaped .result
-escaped c = ap isEscaped (sym (c .before .peek2 .ensures)) ∙ sym (c .is-escaped .ensures)
+escaped : (c : tie.After-is-escaped Inv-loop μ-loop) → let at-loop = c .before .before .before .before .before .before in let start = at-loop .before .before .before .before in isEscaped (getD (start .args .part .now) (at-loop .loop .i + 1) 0) ≡ c .is-escaped .result
+escaped c =
+    let after-peek2 = c .before in
+    ap isEscaped (sym (after-peek2 .peek2 .ensures)) ∙ sym (c .is-escaped .ensures)
 
-second-inside : (c : tie.Else4 Inv-loop μ-loop) → c .before .before .before .before .before .before .before .loop .i + 1 < length (c .before .before .before .before .before .before .before .before .before .before .before .args .part .now)
-second-inside c = byte-inside (c .before .before .before .before .before .before .before .before .before .before .before .args .part .now) (c .before .before .before .before .before .before .before .loop .i + 1) (escaped-inside _ (escaped (c .before) ∙ not-false _ (c .if4 .left)))
+second-inside : (c : tie.Else4 Inv-loop μ-loop) → let at-loop = c .before .before .before .before .before .before .before in let start = at-loop .before .before .before .before in at-loop .loop .i + 1 < length (start .args .part .now)
+second-inside c =
+    let after-is-escaped = c .before in
+    let at-loop = after-is-escaped .before .before .before .before .before .before in
+    let start = at-loop .before .before .before .before in
+    byte-inside (start .args .part .now) (at-loop .loop .i + 1) (escaped-inside _ (escaped after-is-escaped ∙ not-false _ (c .if4 .left)))
 
--- src/lib.rt:219:8
 peek-requires : tie.Need-peek-requires Inv-loop μ-loop
 peek-requires c κs = search needs
 
--- src/lib.rt:220:9
 returns : tie.Need-returns Inv-loop μ-loop
-returns c = ap endOf (sym (label-unquoted (c .before .before .before .args .part .now) (λ e. c .if1 .taken (c .before .peek .ensures ∙ e))))
+returns c =
+    let after-peek = c .before in
+    let start = after-peek .before .before in
+    ap endOf (sym (label-unquoted (start .args .part .now) (λ e. c .if1 .taken (after-peek .peek .ensures ∙ e))))
 
--- src/lib.rt:224:5
 loop-holds : tie.Need-loop-holds Inv-loop μ-loop
-loop-holds c = (omega arith, label-quoted (c .before .before .before .args .part .now) (sym (c .before .peek .ensures) ∙ c .if1 .left))
+loop-holds c =
+    let after-peek = c .before in
+    let start = after-peek .before .before in
+    (omega arith, label-quoted (start .args .part .now) (sym (after-peek .peek .ensures) ∙ c .if1 .left))
 
--- src/lib.rt:225:17
 shared-slice-read-b : tie.Need-shared-slice-read-b Inv-loop μ-loop
 shared-slice-read-b c = search needs
 
--- src/lib.rt:227:13
 closed-requires : tie.Need-closed-requires Inv-loop μ-loop
 closed-requires c κs = search needs
 
--- src/lib.rt:227:13
 returns-2 : tie.Need-returns-2 Inv-loop μ-loop
 returns-2 c =
-    let l = c .before .before .before .before .loop in
-    c .closed .ensures ∙ ap endOf (sym (quote-closes (c .before .before .before .before .before .before .before .before .args .part .now) (l .n) (l .i) (c .before .if2 .taken)) ∙ l .inv .1)
+    let if2-taken = c .before in
+    let at-loop = if2-taken .before .before .before in
+    let start = at-loop .before .before .before .before in
+    let l = at-loop .loop in
+    c .closed .ensures ∙ ap endOf (sym (quote-closes (start .args .part .now) (l .n) (l .i) (if2-taken .if2 .taken)) ∙ l .inv .1)
 
--- src/lib.rt:230:32
 add-peek : tie.Need-add-peek Inv-loop μ-loop
 add-peek c = search needs
 
--- src/lib.rt:230:17
 peek-requires-2 : tie.Need-peek-requires-2 Inv-loop μ-loop
 peek-requires-2 c κs = search needs
 
--- src/lib.rt:231:17
 is-escaped-requires : tie.Need-is-escaped-requires Inv-loop μ-loop
 is-escaped-requires c κs = search needs
 
--- src/lib.rt:232:17
 returns-3 : tie.Need-returns-3 Inv-loop μ-loop
 returns-3 c =
-    let l = c .before .before .before .before .before .before .before .loop in
-    ap endOf (sym (escaped-none (c .before .before .before .before .before .before .before .before .before .before .before .args .part .now) (l .n) (l .i) (c .before .before .before .if3 .taken) (escaped (c .before) ∙ not-true _ (c .if4 .taken))) ∙ l .inv .1)
+    let after-is-escaped = c .before in
+    let if3-taken = after-is-escaped .before .before in
+    let at-loop = if3-taken .before .before .before .before in
+    let start = at-loop .before .before .before .before in
+    let l = at-loop .loop in
+    ap endOf (sym (escaped-none (start .args .part .now) (l .n) (l .i) (if3-taken .if3 .taken) (escaped after-is-escaped ∙ not-true _ (c .if4 .taken))) ∙ l .inv .1)
 
--- src/lib.rt:234:13
 add-n : tie.Need-add-n Inv-loop μ-loop
 add-n c = search needs
 
--- src/lib.rt:235:13
 add-i : tie.Need-add-i Inv-loop μ-loop
 add-i c = omega (arith, second-inside c)
 
--- src/lib.rt:224:5
 loop-less : tie.Need-loop-less Inv-loop μ-loop
 loop-less c = search needs
 
--- src/lib.rt:224:5
 loop-again : tie.Need-loop-again Inv-loop μ-loop
 loop-again c =
-    let l = c .before .before .before .before .before .before .before .loop in
-    (omega arith, sym (escaped-more (c .before .before .before .before .before .before .before .before .before .before .before .args .part .now) (l .n) (l .i) (c .before .before .before .if3 .taken) (escaped (c .before) ∙ not-false _ (c .if4 .left))) ∙ l .inv .1)
+    let after-is-escaped = c .before in
+    let if3-taken = after-is-escaped .before .before in
+    let at-loop = if3-taken .before .before .before .before in
+    let start = at-loop .before .before .before .before in
+    let l = at-loop .loop in
+    (omega arith, sym (escaped-more (start .args .part .now) (l .n) (l .i) (if3-taken .if3 .taken) (escaped after-is-escaped ∙ not-false _ (c .if4 .left))) ∙ l .inv .1)
 
--- src/lib.rt:237:17
 is-character-requires : tie.Need-is-character-requires Inv-loop μ-loop
 is-character-requires c κs = search needs
 
--- src/lib.rt:238:17
 returns-4 : tie.Need-returns-4 Inv-loop μ-loop
 returns-4 c =
-    let l = c .before .before .before .before .before .before .loop in
+    let after-is-character = c .before in
+    let if3-left = after-is-character .before in
+    let if2-left = if3-left .before in
+    let at-loop = if2-left .before .before .before in
+    let start = at-loop .before .before .before .before in
+    let l = at-loop .loop in
     ap endOf
-    (sym (character-none (c .before .before .before .before .before .before .before .before .before .before .args .part .now) (l .n) (l .i) (omega arith) (c .before .before .before .if2 .left) (c .before .before .if3 .left) (sym (c .before .is-character .ensures) ∙ not-true _ (c .if5 .taken)))
+    (sym (character-none (start .args .part .now) (l .n) (l .i) (omega arith) (if2-left .if2 .left) (if3-left .if3 .left) (sym (after-is-character .is-character .ensures) ∙ not-true _ (c .if5 .taken)))
     ∙ l .inv .1)
 
--- src/lib.rt:240:13
 add-n-2 : tie.Need-add-n-2 Inv-loop μ-loop
 add-n-2 c = search needs
 
--- src/lib.rt:241:13
 add-i-2 : tie.Need-add-i-2 Inv-loop μ-loop
 add-i-2 c = search needs
 
--- src/lib.rt:224:5
 loop-less-2 : tie.Need-loop-less-2 Inv-loop μ-loop
 loop-less-2 c = search needs
 
--- src/lib.rt:224:5
 loop-again-2 : tie.Need-loop-again-2 Inv-loop μ-loop
 loop-again-2 c =
-    let l = c .before .before .before .before .before .before .loop in (
+    let after-is-character = c .before in
+    let if3-left = after-is-character .before in
+    let if2-left = if3-left .before in
+    let at-loop = if2-left .before .before .before in
+    let start = at-loop .before .before .before .before in
+    let l = at-loop .loop in (
       omega arith,
-      sym (character-more (c .before .before .before .before .before .before .before .before .before .before .args .part .now) (l .n) (l .i) (omega arith) (c .before .before .before .if2 .left) (c .before .before .if3 .left) (sym (c .before .is-character .ensures) ∙ not-false _ (c .if5 .left)))
+      sym (character-more (start .args .part .now) (l .n) (l .i) (omega arith) (if2-left .if2 .left) (if3-left .if3 .left) (sym (after-is-character .is-character .ensures) ∙ not-false _ (c .if5 .left)))
           ∙ l .inv .1,
     )
 
--- src/lib.rt:216:1
 returns-5 : tie.Need-returns-5 Inv-loop μ-loop
-returns-5 c = let l = c .before .loop in ap endOf (sym (closing-end (c .before .before .before .before .before .args .part .now) (l .n) (l .i) (c .loop-test .left)) ∙ l .inv .1)
+returns-5 c =
+    let at-loop = c .before in
+    let start = at-loop .before .before .before .before in
+    let l = at-loop .loop in ap endOf (sym (closing-end (start .args .part .now) (l .n) (l .i) (c .loop-test .left)) ∙ l .inv .1)
 
 pub read-label-spec : {M : Type 1} → statement M
 read-label-spec =

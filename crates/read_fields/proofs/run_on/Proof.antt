@@ -1,4 +1,4 @@
--- `text::run_on` meets its contract: reading on from here, with the value cut, gives what reading from the start gives.
+-- `read_fields::run_on` meets its contract: reading on from here, with the value cut, gives what reading from the start gives.
 use mathlib.Core.Bool.{true}
 use borrow.Author.Tests.{not-true, not-false}
 use Rattle.roundtrip.specs.Numbers.{digit-from}
@@ -19,69 +19,67 @@ Inv-loop s at before v₀ i₀ v i = (v ≤ 1_000_000) × (numberField (run v i 
 abbrev μ-loop : tie.MeasureT-loop
 μ-loop s at before v₀ i₀ v i = length s - i
 
-digit : (c : tie.Else1 Inv-loop μ-loop) → isDigit (getD (c .before .before .before .before .before .before .args .s .now) (c .before .before .before .before .loop .i) 0) ≡ true
-digit c = sym (c .before .is-digit .ensures) ∙ not-false _ (c .if1 .left)
+digit : (c : tie.Else1 Inv-loop μ-loop) → let at-loop = c .before .before .before .before in let start = at-loop .before .before in isDigit (getD (start .args .s .now) (at-loop .loop .i) 0) ≡ true
+digit c =
+    let after-is-digit = c .before in
+    sym (after-is-digit .is-digit .ensures) ∙ not-false _ (c .if1 .left)
 
-bounds : (c : tie.Else1 Inv-loop μ-loop) → (48 ≤ getD (c .before .before .before .before .before .before .args .s .now) (c .before .before .before .before .loop .i) 0) × (getD (c .before .before .before .before .before .before .args .s .now) (c .before .before .before .before .loop .i) 0 ≤ 57)
-bounds c = digit-from _ (digit c)
+bounds : (c : tie.Else1 Inv-loop μ-loop) → let at-loop = c .before .before .before .before in let start = at-loop .before .before in (48 ≤ getD (start .args .s .now) (at-loop .loop .i) 0) × (getD (start .args .s .now) (at-loop .loop .i) 0 ≤ 57)
+bounds c =
+    digit-from _ (digit c)
 
--- src/lib.rt:106:5
 loop-holds : tie.Need-loop-holds Inv-loop μ-loop
 loop-holds c = search needs
 
--- src/lib.rt:107:17
 shared-slice-read-b : tie.Need-shared-slice-read-b Inv-loop μ-loop
 shared-slice-read-b c = search needs
 
--- src/lib.rt:108:13
 is-digit-requires : tie.Need-is-digit-requires Inv-loop μ-loop
 is-digit-requires c κs = search needs
 
--- src/lib.rt:109:13
 returns : tie.Need-returns Inv-loop μ-loop
 returns c =
-    let l = c .before .before .before .before .loop in
-    cut-stop (c .before .before .before .before .before .before .args .s .now) (l .i) (l .v) (l .inv .0) (sym (c .before .is-digit .ensures) ∙ not-true _ (c .if1 .taken)) ∙ l .inv .1
+    let after-is-digit = c .before in
+    let at-loop = after-is-digit .before .before .before in
+    let start = at-loop .before .before in
+    let l = at-loop .loop in
+    cut-stop (start .args .s .now) (l .i) (l .v) (l .inv .0) (sym (after-is-digit .is-digit .ensures) ∙ not-true _ (c .if1 .taken)) ∙ l .inv .1
 
--- src/lib.rt:111:20
 mul-cut-at : tie.Need-mul-cut-at Inv-loop μ-loop
 mul-cut-at c = search needs
 
--- src/lib.rt:111:30
+sub-wide : tie.Need-sub-wide Inv-loop μ-loop
+sub-wide c = omega (arith, bounds c)
+
 wide-requires : tie.Need-wide-requires Inv-loop μ-loop
 wide-requires c κs = search needs
 
--- src/lib.rt:111:30
-sub-cut-at : tie.Need-sub-cut-at Inv-loop μ-loop
-sub-cut-at c = omega (arith, bounds (c .before), c .wide .ensures)
-
--- src/lib.rt:111:20
 add-cut-at : tie.Need-add-cut-at Inv-loop μ-loop
 add-cut-at c = omega (arith, bounds (c .before), c .wide .ensures)
 
--- src/lib.rt:111:9
 cut-at-requires : tie.Need-cut-at-requires Inv-loop μ-loop
 cut-at-requires c κs = search needs
 
--- src/lib.rt:112:9
 add-i : tie.Need-add-i Inv-loop μ-loop
 add-i c = search needs
 
--- src/lib.rt:106:5
 loop-less : tie.Need-loop-less Inv-loop μ-loop
 loop-less c = search needs
 
--- src/lib.rt:106:5
 loop-again : tie.Need-loop-again Inv-loop μ-loop
 loop-again c =
-    let l = c .before .before .before .before .before .before .loop in
-    (omega (arith, c .cut-at .ensures), cc (cut-more (c .before .before .before .before .before .before .before .before .args .s .now) (l .i) (l .v) (digit (c .before .before))))
+    let if1-left = c .before .before in
+    let at-loop = if1-left .before .before .before .before in
+    let start = at-loop .before .before in
+    let l = at-loop .loop in
+    (omega (arith, c .cut-at .ensures), cc (cut-more (start .args .s .now) (l .i) (l .v) (digit if1-left)))
 
--- src/lib.rt:100:1
 returns-2 : tie.Need-returns-2 Inv-loop μ-loop
 returns-2 c =
-    let l = c .before .loop in
-    let s = c .before .before .before .args .s .now in
+    let at-loop = c .before in
+    let start = at-loop .before .before in
+    let l = at-loop .loop in
+    let s = start .args .s .now in
     cut-stop s (l .i) (l .v) (l .inv .0) (ap isDigit (List·getD-eq-default s 0 (c .loop-test .left))) ∙ l .inv .1
 
 pub run-on-spec : {M : Type 1} → statement M
@@ -95,8 +93,8 @@ run-on-spec =
     is-digit-requires
     returns
     mul-cut-at
+    sub-wide
     wide-requires
-    sub-cut-at
     add-cut-at
     cut-at-requires
     add-i

@@ -1,4 +1,4 @@
--- `text::spaced_basis` meets its contract: the byte and the basis in turn.
+-- `read_fields::spaced_basis` meets its contract: the byte and the basis in turn.
 use mathlib.Core.Path.{sym, _∙_}
 use Rattle.rules.specs.Fields as fields
 use Rattle.rules.specs.Fields.{byteAt, basisAt}
@@ -8,33 +8,33 @@ use borrow.Author.Needs.{needs}
 use Rattle.read_fields.proofs.spaced_basis.Statement.{statement}
 use Rattle.read_fields.proofs.spaced_basis.Tie as tie
 
--- src/lib.rt:168:23
 byte-requires : tie.Need-byte-requires
 byte-requires c κs = search needs
 
--- src/lib.rt:168:18
 enum-known-p : tie.Need-enum-known-p
 enum-known-p c = search needs
 
--- src/lib.rt:169:9
 enum-told : tie.Need-enum-told
 enum-told c = search needs
 
--- src/lib.rt:169:9
 returns : tie.Need-returns
 unfolding fields.spacedBasis
-returns c = after-missing basisField (byteAt (c .before .before .before .before .args .s .now) (c .before .before .before .before .args .at) 32) (basisAt (c .before .before .before .before .args .s .now)) (sym (c .before .before .byte .ensures) ∙ c .enum-told .given .1)
+returns c =
+    let after-byte = c .before .before in
+    let start = after-byte .before .before in
+    after-missing basisField (byteAt (start .args .s .now) (start .args .at) 32) (basisAt (start .args .s .now)) (sym (after-byte .byte .ensures) ∙ c .enum-told .given .1)
 
--- src/lib.rt:171:5
 basis-at-requires : tie.Need-basis-at-requires
 basis-at-requires c κs = search needs
 
--- src/lib.rt:165:1
 returns-2 : tie.Need-returns-2
 unfolding fields.spacedBasis
 returns-2 c =
+    let after-p = c .before .before in
+    let after-byte = after-p .before .before in
+    let start = after-byte .before .before in
     c .basis-at .ensures
-    ∙ after-at basisField (byteAt (c .before .before .before .before .before .before .args .s .now) (c .before .before .before .before .before .before .args .at) 32) (basisAt (c .before .before .before .before .before .before .args .s .now)) (c .before .before .p .given .0 .0) (sym (c .before .before .before .before .byte .ensures) ∙ c .before .before .p .given .1)
+    ∙ after-at basisField (byteAt (start .args .s .now) (start .args .at) 32) (basisAt (start .args .s .now)) (after-p .p .given .0 .0) (sym (after-byte .byte .ensures) ∙ after-p .p .given .1)
 
 pub spaced-basis-spec : {M : Type 1} → statement M
 spaced-basis-spec =

@@ -1,4 +1,4 @@
--- `text::spaced_label` meets its contract: the byte and the label of the part from there on, in turn.
+-- `read_fields::spaced_label` meets its contract: the byte and the label of the part from there on, in turn.
 use mathlib.Core.Path.{_≡_, ap, sym, _∙_}
 use mathlib.Core.List.{List}
 use mathlib.Core.Option.{Option, some}
@@ -17,89 +17,105 @@ use Rattle.read_fields.proofs.spaced_label.Tie as tie
 abbrev label-at : List ℕ → ℕ → Field Place
 label-at s d = labelFrom d (labelEnd (drop d s))
 
-in-d : (c : tie.After-known-told) → c .before .d .given .0 .0 ≤ length (c .before .before .before .before .before .args .s .now)
-in-d c = step-inside (c .before .before .before .before .before .args .s .now) (c .before .before .before .before .before .args .at) 32 (c .before .d .given .0 .0) (omega arith) (sym (c .before .before .before .byte .ensures) ∙ c .before .d .given .1)
+in-d : (c : tie.After-known-told) → let after-d = c .before in let start = after-d .before .before .before .before in after-d .d .given .0 .0 ≤ length (start .args .s .now)
+in-d c =
+    let after-d = c .before in
+    let after-byte = after-d .before .before in
+    let start = after-byte .before .before in
+    step-inside (start .args .s .now) (start .args .at) 32 (after-d .d .given .0 .0) (omega arith) (sym (after-byte .byte .ensures) ∙ after-d .d .given .1)
 
-closed-is : (c : tie.After-known-told2) → labelEnd (drop (c .before .before .before .before .before .before .d .given .0 .0) (c .before .before .before .before .before .before .before .before .before .before .args .s .now)) ≡ some (c .before .z .given .0 .0)
-closed-is c = part-closed (c .before .before .before .before .before .before .before .before .before .before .args .s .now) (c .before .before .before .before .before .before .d .given .0 .0) (c .before .z .given .0 .0) (sym (c .before .before .before .read-label .ensures) ∙ c .before .z .given .1)
+closed-is : (c : tie.After-known-told2) → let after-z = c .before in let after-d = after-z .before .before .before .before .before in let start = after-d .before .before .before .before in labelEnd (drop (after-d .d .given .0 .0) (start .args .s .now)) ≡ some (after-z .z .given .0 .0)
+closed-is c =
+    let after-z = c .before in
+    let after-read-label = after-z .before .before in
+    let after-d = after-read-label .before .before .before in
+    let start = after-d .before .before .before .before in
+    part-closed (start .args .s .now) (after-d .d .given .0 .0) (after-z .z .given .0 .0) (sym (after-read-label .read-label .ensures) ∙ after-z .z .given .1)
 
-in-z : (c : tie.After-known-told2) → c .before .before .before .before .before .before .d .given .0 .0 + c .before .z .given .0 .0 < length (c .before .before .before .before .before .before .before .before .before .before .args .s .now)
-in-z c = part-inside (c .before .before .before .before .before .before .before .before .before .before .args .s .now) (c .before .before .before .before .before .before .d .given .0 .0) (c .before .z .given .0 .0) (in-d (c .before .before .before .before .before)) (closed-is c)
+in-z : (c : tie.After-known-told2) → let after-z = c .before in let after-d = after-z .before .before .before .before .before in let start = after-d .before .before .before .before in after-d .d .given .0 .0 + after-z .z .given .0 .0 < length (start .args .s .now)
+in-z c =
+    let after-z = c .before in
+    let after-known-told = after-z .before .before .before .before in
+    let after-d = after-known-told .before in
+    let start = after-d .before .before .before .before in
+    part-inside (start .args .s .now) (after-d .d .given .0 .0) (after-z .z .given .0 .0) (in-d after-known-told) (closed-is c)
 
--- src/lib.rt:251:23
 byte-requires : tie.Need-byte-requires
 byte-requires c κs = search needs
 
--- src/lib.rt:251:18
 enum-known-d : tie.Need-enum-known-d
 enum-known-d c = search needs
 
--- src/lib.rt:252:9
 enum-told : tie.Need-enum-told
 enum-told c = search needs
 
--- src/lib.rt:252:9
 returns : tie.Need-returns
 unfolding fields.spacedLabel
-returns c = after-missing labelField (byteAt (c .before .before .before .before .args .s .now) (c .before .before .before .before .args .at) 32) (label-at (c .before .before .before .before .args .s .now)) (sym (c .before .before .byte .ensures) ∙ c .enum-told .given .1)
+returns c =
+    let after-byte = c .before .before in
+    let start = after-byte .before .before in
+    after-missing labelField (byteAt (start .args .s .now) (start .args .at) 32) (label-at (start .args .s .now)) (sym (after-byte .byte .ensures) ∙ c .enum-told .given .1)
 
--- src/lib.rt:254:42
 sub-read-label : tie.Need-sub-read-label
 sub-read-label c = in-d c
 
--- src/lib.rt:254:42
 part-read-label-start : tie.Need-part-read-label-start
 part-read-label-start c = in-d c
 
--- src/lib.rt:254:42
 part-read-label-end : tie.Need-part-read-label-end
 part-read-label-end c = search needs
 
--- src/lib.rt:254:31
 read-label-requires : tie.Need-read-label-requires
 read-label-requires c κs = search needs
 
--- src/lib.rt:254:26
 enum-known-z : tie.Need-enum-known-z
 enum-known-z c = search needs
 
--- src/lib.rt:255:9
 enum-told-2 : tie.Need-enum-told-2
 enum-told-2 c = search needs
 
--- src/lib.rt:255:9
 returns-2 : tie.Need-returns-2
 unfolding fields.spacedLabel
 returns-2 c =
-    let s = c .before .before .before .before .before .before .before .before .before .args .s .now in
-    let d = c .before .before .before .before .before .d .given .0 .0 in
-    ap (λ (x : Option ℕ). labelField (labelFrom d x)) (sym (part-unclosed s d (sym (c .before .before .read-label .ensures) ∙ c .enum-told2 .given .1)))
-    ∙ after-at labelField (byteAt s (c .before .before .before .before .before .before .before .before .before .args .at) 32) (label-at s) d (sym (c .before .before .before .before .before .before .before .byte .ensures) ∙ c .before .before .before .before .before .d .given .1)
+    let after-read-label = c .before .before in
+    let after-d = after-read-label .before .before .before in
+    let after-byte = after-d .before .before in
+    let start = after-byte .before .before in
+    let s = start .args .s .now in
+    let d = after-d .d .given .0 .0 in
+    ap (λ (x : Option ℕ). labelField (labelFrom d x)) (sym (part-unclosed s d (sym (after-read-label .read-label .ensures) ∙ c .enum-told2 .given .1)))
+    ∙ after-at labelField (byteAt s (start .args .at) 32) (label-at s) d (sym (after-byte .byte .ensures) ∙ after-d .d .given .1)
 
--- src/lib.rt:257:20
 add-t8 : tie.Need-add-t8
-add-t8 c = omega (arith, in-z c, c .before .before .before .before .before .before .before .before .before .before .good .0 .0)
+add-t8 c =
+    let start = c .before .before .before .before .before .before .before .before .before .before in
+    omega (arith, in-z c, start .good .0 .0)
 
--- src/lib.rt:257:27
 add-t11 : tie.Need-add-t11
-add-t11 c = omega (arith, in-z c, c .before .before .before .before .before .before .before .before .before .before .good .0 .0)
+add-t11 c =
+    let start = c .before .before .before .before .before .before .before .before .before .before in
+    omega (arith, in-z c, start .good .0 .0)
 
--- src/lib.rt:257:34
 add-t12 : tie.Need-add-t12
-add-t12 c = omega (arith, in-z c, c .before .before .before .before .before .before .before .before .before .before .good .0 .0)
+add-t12 c =
+    let start = c .before .before .before .before .before .before .before .before .before .before in
+    omega (arith, in-z c, start .good .0 .0)
 
--- src/lib.rt:257:34
 add-t13 : tie.Need-add-t13
-add-t13 c = omega (arith, in-z c, c .before .before .before .before .before .before .before .before .before .before .good .0 .0)
+add-t13 c =
+    let start = c .before .before .before .before .before .before .before .before .before .before in
+    omega (arith, in-z c, start .good .0 .0)
 
--- src/lib.rt:248:1
 returns-3 : tie.Need-returns-3
 unfolding fields.spacedLabel
 returns-3 c =
-    let s = c .before .before .before .before .before .before .before .before .before .before .args .s .now in
-    let d = c .before .before .before .before .before .before .d .given .0 .0 in
+    let after-d = c .before .before .before .before .before .before in
+    let after-byte = after-d .before .before in
+    let start = after-byte .before .before in
+    let s = start .args .s .now in
+    let d = after-d .d .given .0 .0 in
     ap (λ (x : Option ℕ). labelField (labelFrom d x)) (sym (closed-is c))
-    ∙ after-at labelField (byteAt s (c .before .before .before .before .before .before .before .before .before .before .args .at) 32) (label-at s) d (sym (c .before .before .before .before .before .before .before .before .byte .ensures) ∙ c .before .before .before .before .before .before .d .given .1)
+    ∙ after-at labelField (byteAt s (start .args .at) 32) (label-at s) d (sym (after-byte .byte .ensures) ∙ after-d .d .given .1)
 
 pub spaced-label-spec : {M : Type 1} → statement M
 spaced-label-spec =

@@ -26,7 +26,11 @@ enum-told-2 : tie.Need-enum-told-2
 enum-told-2 c = search needs
 
 returns-2 : tie.Need-returns-2
-returns-2 c = rw (delivery-chain, ← (c .before .before .before .before .before .before .spaced-number .ensures), c .before .before .before .before .sequence .given .1, ← (c .before .before .spaced-number2 .ensures), c .enum-told2 .given .1)
+returns-2 c =
+    let after-spaced-number2 = c .before .before in
+    let after-sequence = after-spaced-number2 .before .before in
+    let after-spaced-number = after-sequence .before .before in
+    rw (delivery-chain, ← (after-spaced-number .spaced-number .ensures), after-sequence .sequence .given .1, ← (after-spaced-number2 .spaced-number2 .ensures), c .enum-told2 .given .1)
 
 spaced-number-requires-3 : tie.Need-spaced-number-requires-3
 spaced-number-requires-3 c κs = search needs
@@ -38,7 +42,13 @@ enum-told-3 : tie.Need-enum-told-3
 enum-told-3 c = search needs
 
 returns-3 : tie.Need-returns-3
-returns-3 c = rw (delivery-chain, ← (c .before .before .before .before .before .before .before .before .before .before .spaced-number .ensures), c .before .before .before .before .before .before .before .before .sequence .given .1, ← (c .before .before .before .before .before .before .spaced-number2 .ensures), c .before .before .before .before .kind .given .1, ← (c .before .before .spaced-number3 .ensures), c .enum-told3 .given .1)
+returns-3 c =
+    let after-spaced-number3 = c .before .before in
+    let after-kind = after-spaced-number3 .before .before in
+    let after-spaced-number2 = after-kind .before .before in
+    let after-sequence = after-spaced-number2 .before .before in
+    let after-spaced-number = after-sequence .before .before in
+    rw (delivery-chain, ← (after-spaced-number .spaced-number .ensures), after-sequence .sequence .given .1, ← (after-spaced-number2 .spaced-number2 .ensures), after-kind .kind .given .1, ← (after-spaced-number3 .spaced-number3 .ensures), c .enum-told3 .given .1)
 
 spaced-number-requires-4 : tie.Need-spaced-number-requires-4
 spaced-number-requires-4 c κs = search needs
@@ -50,7 +60,15 @@ enum-told-4 : tie.Need-enum-told-4
 enum-told-4 c = search needs
 
 returns-4 : tie.Need-returns-4
-returns-4 c = rw (delivery-chain, ← (c .before .before .before .before .before .before .before .before .before .before .before .before .before .before .spaced-number .ensures), c .before .before .before .before .before .before .before .before .before .before .before .before .sequence .given .1, ← (c .before .before .before .before .before .before .before .before .before .before .spaced-number2 .ensures), c .before .before .before .before .before .before .before .before .kind .given .1, ← (c .before .before .before .before .before .before .spaced-number3 .ensures), c .before .before .before .before .block .given .1, ← (c .before .before .spaced-number4 .ensures), c .enum-told4 .given .1)
+returns-4 c =
+    let after-spaced-number4 = c .before .before in
+    let after-block = after-spaced-number4 .before .before in
+    let after-spaced-number3 = after-block .before .before in
+    let after-kind = after-spaced-number3 .before .before in
+    let after-spaced-number2 = after-kind .before .before in
+    let after-sequence = after-spaced-number2 .before .before in
+    let after-spaced-number = after-sequence .before .before in
+    rw (delivery-chain, ← (after-spaced-number .spaced-number .ensures), after-sequence .sequence .given .1, ← (after-spaced-number2 .spaced-number2 .ensures), after-kind .kind .given .1, ← (after-spaced-number3 .spaced-number3 .ensures), after-block .block .given .1, ← (after-spaced-number4 .spaced-number4 .ensures), c .enum-told4 .given .1)
 
 spaced-label-requires : tie.Need-spaced-label-requires
 spaced-label-requires c κs = search needs
@@ -62,7 +80,17 @@ enum-told-5 : tie.Need-enum-told-5
 enum-told-5 c = search needs
 
 returns-5 : tie.Need-returns-5
-returns-5 c = rw (delivery-chain, ← (c .before .before .before .before .before .before .before .before .before .before .before .before .before .before .before .before .before .before .spaced-number .ensures), c .before .before .before .before .before .before .before .before .before .before .before .before .before .before .before .before .sequence .given .1, ← (c .before .before .before .before .before .before .before .before .before .before .before .before .before .before .spaced-number2 .ensures), c .before .before .before .before .before .before .before .before .before .before .before .before .kind .given .1, ← (c .before .before .before .before .before .before .before .before .before .before .spaced-number3 .ensures), c .before .before .before .before .before .before .before .before .block .given .1, ← (c .before .before .before .before .before .before .spaced-number4 .ensures), c .before .before .before .before .mwh .given .1, ← (c .before .before .spaced-label .ensures), c .enum-told5 .given .1)
+returns-5 c =
+    let after-spaced-label = c .before .before in
+    let after-mwh = after-spaced-label .before .before in
+    let after-spaced-number4 = after-mwh .before .before in
+    let after-block = after-spaced-number4 .before .before in
+    let after-spaced-number3 = after-block .before .before in
+    let after-kind = after-spaced-number3 .before .before in
+    let after-spaced-number2 = after-kind .before .before in
+    let after-sequence = after-spaced-number2 .before .before in
+    let after-spaced-number = after-sequence .before .before in
+    rw (delivery-chain, ← (after-spaced-number .spaced-number .ensures), after-sequence .sequence .given .1, ← (after-spaced-number2 .spaced-number2 .ensures), after-kind .kind .given .1, ← (after-spaced-number3 .spaced-number3 .ensures), after-block .block .given .1, ← (after-spaced-number4 .spaced-number4 .ensures), after-mwh .mwh .given .1, ← (after-spaced-label .spaced-label .ensures), c .enum-told5 .given .1)
 
 byte-requires : tie.Need-byte-requires
 byte-requires c κs = search needs
@@ -74,10 +102,35 @@ enum-told-6 : tie.Need-enum-told-6
 enum-told-6 c = search needs
 
 returns-6 : tie.Need-returns-6
-returns-6 c = rw (delivery-chain, ← (c .before .before .before .before .before .before .before .before .before .before .before .before .before .before .before .before .before .before .before .before .before .before .spaced-number .ensures), c .before .before .before .before .before .before .before .before .before .before .before .before .before .before .before .before .before .before .before .before .sequence .given .1, ← (c .before .before .before .before .before .before .before .before .before .before .before .before .before .before .before .before .before .before .spaced-number2 .ensures), c .before .before .before .before .before .before .before .before .before .before .before .before .before .before .before .before .kind .given .1, ← (c .before .before .before .before .before .before .before .before .before .before .before .before .before .before .spaced-number3 .ensures), c .before .before .before .before .before .before .before .before .before .before .before .before .block .given .1, ← (c .before .before .before .before .before .before .before .before .before .before .spaced-number4 .ensures), c .before .before .before .before .before .before .before .before .mwh .given .1, ← (c .before .before .before .before .before .before .spaced-label .ensures), c .before .before .before .before .from .given .1, ← (c .before .before .byte .ensures), c .enum-told6 .given .1)
+returns-6 c =
+    let after-byte = c .before .before in
+    let after-from = after-byte .before .before in
+    let after-spaced-label = after-from .before .before in
+    let after-mwh = after-spaced-label .before .before in
+    let after-spaced-number4 = after-mwh .before .before in
+    let after-block = after-spaced-number4 .before .before in
+    let after-spaced-number3 = after-block .before .before in
+    let after-kind = after-spaced-number3 .before .before in
+    let after-spaced-number2 = after-kind .before .before in
+    let after-sequence = after-spaced-number2 .before .before in
+    let after-spaced-number = after-sequence .before .before in
+    rw (delivery-chain, ← (after-spaced-number .spaced-number .ensures), after-sequence .sequence .given .1, ← (after-spaced-number2 .spaced-number2 .ensures), after-kind .kind .given .1, ← (after-spaced-number3 .spaced-number3 .ensures), after-block .block .given .1, ← (after-spaced-number4 .spaced-number4 .ensures), after-mwh .mwh .given .1, ← (after-spaced-label .spaced-label .ensures), after-from .from .given .1, ← (after-byte .byte .ensures), c .enum-told6 .given .1)
 
 returns-7 : tie.Need-returns-7
-returns-7 c = rw (delivery-chain, ← (c .before .before .before .before .before .before .before .before .before .before .before .before .before .before .before .before .before .before .before .before .before .before .before .spaced-number .ensures), c .before .before .before .before .before .before .before .before .before .before .before .before .before .before .before .before .before .before .before .before .before .sequence .given .1, ← (c .before .before .before .before .before .before .before .before .before .before .before .before .before .before .before .before .before .before .before .spaced-number2 .ensures), c .before .before .before .before .before .before .before .before .before .before .before .before .before .before .before .before .before .kind .given .1, ← (c .before .before .before .before .before .before .before .before .before .before .before .before .before .before .before .spaced-number3 .ensures), c .before .before .before .before .before .before .before .before .before .before .before .before .before .block .given .1, ← (c .before .before .before .before .before .before .before .before .before .before .before .spaced-number4 .ensures), c .before .before .before .before .before .before .before .before .before .mwh .given .1, ← (c .before .before .before .before .before .before .before .spaced-label .ensures), c .before .before .before .before .before .from .given .1, ← (c .before .before .before .byte .ensures), c .before .next .given .1)
+returns-7 c =
+    let after-next = c .before in
+    let after-byte = after-next .before .before in
+    let after-from = after-byte .before .before in
+    let after-spaced-label = after-from .before .before in
+    let after-mwh = after-spaced-label .before .before in
+    let after-spaced-number4 = after-mwh .before .before in
+    let after-block = after-spaced-number4 .before .before in
+    let after-spaced-number3 = after-block .before .before in
+    let after-kind = after-spaced-number3 .before .before in
+    let after-spaced-number2 = after-kind .before .before in
+    let after-sequence = after-spaced-number2 .before .before in
+    let after-spaced-number = after-sequence .before .before in
+    rw (delivery-chain, ← (after-spaced-number .spaced-number .ensures), after-sequence .sequence .given .1, ← (after-spaced-number2 .spaced-number2 .ensures), after-kind .kind .given .1, ← (after-spaced-number3 .spaced-number3 .ensures), after-block .block .given .1, ← (after-spaced-number4 .spaced-number4 .ensures), after-mwh .mwh .given .1, ← (after-spaced-label .spaced-label .ensures), after-from .from .given .1, ← (after-byte .byte .ensures), after-next .next .given .1)
 
 pub delivery-spec : {M : Type 1} → statement M
 delivery-spec =

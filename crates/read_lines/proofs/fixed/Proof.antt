@@ -26,7 +26,11 @@ enum-told-2 : tie.Need-enum-told-2
 enum-told-2 c = search needs
 
 returns-2 : tie.Need-returns-2
-returns-2 c = rw (fixed-chain, ← (c .before .before .before .before .before .before .spaced-number .ensures), c .before .before .before .before .g .given .1, ← (c .before .before .spaced-label .ensures), c .enum-told2 .given .1)
+returns-2 c =
+    let after-spaced-label = c .before .before in
+    let after-g = after-spaced-label .before .before in
+    let after-spaced-number = after-g .before .before in
+    rw (fixed-chain, ← (after-spaced-number .spaced-number .ensures), after-g .g .given .1, ← (after-spaced-label .spaced-label .ensures), c .enum-told2 .given .1)
 
 byte-requires : tie.Need-byte-requires
 byte-requires c κs = search needs
@@ -38,10 +42,23 @@ enum-told-3 : tie.Need-enum-told-3
 enum-told-3 c = search needs
 
 returns-3 : tie.Need-returns-3
-returns-3 c = rw (fixed-chain, ← (c .before .before .before .before .before .before .before .before .before .before .spaced-number .ensures), c .before .before .before .before .before .before .before .before .g .given .1, ← (c .before .before .before .before .before .before .spaced-label .ensures), c .before .before .before .before .from .given .1, ← (c .before .before .byte .ensures), c .enum-told3 .given .1)
+returns-3 c =
+    let after-byte = c .before .before in
+    let after-from = after-byte .before .before in
+    let after-spaced-label = after-from .before .before in
+    let after-g = after-spaced-label .before .before in
+    let after-spaced-number = after-g .before .before in
+    rw (fixed-chain, ← (after-spaced-number .spaced-number .ensures), after-g .g .given .1, ← (after-spaced-label .spaced-label .ensures), after-from .from .given .1, ← (after-byte .byte .ensures), c .enum-told3 .given .1)
 
 returns-4 : tie.Need-returns-4
-returns-4 c = rw (fixed-chain, ← (c .before .before .before .before .before .before .before .before .before .before .before .spaced-number .ensures), c .before .before .before .before .before .before .before .before .before .g .given .1, ← (c .before .before .before .before .before .before .before .spaced-label .ensures), c .before .before .before .before .before .from .given .1, ← (c .before .before .before .byte .ensures), c .before .next .given .1)
+returns-4 c =
+    let after-next = c .before in
+    let after-byte = after-next .before .before in
+    let after-from = after-byte .before .before in
+    let after-spaced-label = after-from .before .before in
+    let after-g = after-spaced-label .before .before in
+    let after-spaced-number = after-g .before .before in
+    rw (fixed-chain, ← (after-spaced-number .spaced-number .ensures), after-g .g .given .1, ← (after-spaced-label .spaced-label .ensures), after-from .from .given .1, ← (after-byte .byte .ensures), after-next .next .given .1)
 
 pub fixed-spec : {M : Type 1} → statement M
 fixed-spec =

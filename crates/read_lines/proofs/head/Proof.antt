@@ -26,10 +26,19 @@ enum-told-2 : tie.Need-enum-told-2
 enum-told-2 c = search needs
 
 returns-2 : tie.Need-returns-2
-returns-2 c = rw (head-chain, ← (c .before .before .before .before .before .before .spaced-number .ensures), c .before .before .before .before .losses .given .1, ← (c .before .before .byte .ensures), c .enum-told2 .given .1)
+returns-2 c =
+    let after-byte = c .before .before in
+    let after-losses = after-byte .before .before in
+    let after-spaced-number = after-losses .before .before in
+    rw (head-chain, ← (after-spaced-number .spaced-number .ensures), after-losses .losses .given .1, ← (after-byte .byte .ensures), c .enum-told2 .given .1)
 
 returns-3 : tie.Need-returns-3
-returns-3 c = rw (head-chain, ← (c .before .before .before .before .before .before .before .spaced-number .ensures), c .before .before .before .before .before .losses .given .1, ← (c .before .before .before .byte .ensures), c .before .next .given .1)
+returns-3 c =
+    let after-next = c .before in
+    let after-byte = after-next .before .before in
+    let after-losses = after-byte .before .before in
+    let after-spaced-number = after-losses .before .before in
+    rw (head-chain, ← (after-spaced-number .spaced-number .ensures), after-losses .losses .given .1, ← (after-byte .byte .ensures), after-next .next .given .1)
 
 pub head-spec : {M : Type 1} → statement M
 head-spec =

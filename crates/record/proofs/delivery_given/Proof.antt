@@ -16,10 +16,16 @@ enum-told-2 : tie.Need-enum-told-2
 enum-told-2 c = search needs
 
 returns : tie.Need-returns
-returns c = rw (← (c .before .before .before .delivery-in-range .ensures), ← (c .before .before .take-delivery .ensures), c .enum-told2 .given .1)
+returns c =
+    let after-take-delivery = c .before .before in
+    let after-delivery-in-range = after-take-delivery .before in
+    rw (← (after-delivery-in-range .delivery-in-range .ensures), ← (after-take-delivery .take-delivery .ensures), c .enum-told2 .given .1)
 
 returns-2 : tie.Need-returns-2
-returns-2 c = rw (← (c .before .before .before .delivery-in-range .ensures), ← (c .before .before .take-delivery .ensures), c .enum-told .given .1)
+returns-2 c =
+    let after-take-delivery = c .before .before in
+    let after-delivery-in-range = after-take-delivery .before in
+    rw (← (after-delivery-in-range .delivery-in-range .ensures), ← (after-take-delivery .take-delivery .ensures), c .enum-told .given .1)
 
 pub delivery-given-spec : {M : Type 1} → statement M
 delivery-given-spec =

@@ -16,10 +16,16 @@ enum-told-2 : tie.Need-enum-told-2
 enum-told-2 c = search needs
 
 returns : tie.Need-returns
-returns c = rw (← (c .before .before .before .plant-in-range .ensures), ← (c .before .before .take-source .ensures), c .enum-told2 .given .1)
+returns c =
+    let after-take-source = c .before .before in
+    let after-plant-in-range = after-take-source .before in
+    rw (← (after-plant-in-range .plant-in-range .ensures), ← (after-take-source .take-source .ensures), c .enum-told2 .given .1)
 
 returns-2 : tie.Need-returns-2
-returns-2 c = rw (← (c .before .before .before .plant-in-range .ensures), ← (c .before .before .take-source .ensures), c .enum-told .given .1)
+returns-2 c =
+    let after-take-source = c .before .before in
+    let after-plant-in-range = after-take-source .before in
+    rw (← (after-plant-in-range .plant-in-range .ensures), ← (after-take-source .take-source .ensures), c .enum-told .given .1)
 
 pub source-given-spec : {M : Type 1} → statement M
 source-given-spec =

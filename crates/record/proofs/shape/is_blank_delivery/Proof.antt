@@ -15,18 +15,30 @@ returns-2 c = rw (eq-eqb _ _ (c .before .before .if1 .left), ne-eqb _ _ (c .if2 
 
 returns-3 : tie.Need-returns-3
 unfolding shape.deliveryBlank
-returns-3 c = rw (eq-eqb _ _ (c .before .before .before .before .if1 .left), eq-eqb _ _ (c .before .before .if2 .left), ne-eqb _ _ (c .if3 .taken))
+returns-3 c =
+    let if2-left = c .before .before in
+    let if1-left = if2-left .before .before in
+    rw (eq-eqb _ _ (if1-left .if1 .left), eq-eqb _ _ (if2-left .if2 .left), ne-eqb _ _ (c .if3 .taken))
 
 returns-4 : tie.Need-returns-4
 unfolding shape.deliveryBlank
-returns-4 c = rw (eq-eqb _ _ (c .before .before .before .before .before .before .if1 .left), eq-eqb _ _ (c .before .before .before .before .if2 .left), eq-eqb _ _ (c .before .before .if3 .left), ne-eqb _ _ (c .if4 .taken))
+returns-4 c =
+    let if3-left = c .before .before in
+    let if2-left = if3-left .before .before in
+    let if1-left = if2-left .before .before in
+    rw (eq-eqb _ _ (if1-left .if1 .left), eq-eqb _ _ (if2-left .if2 .left), eq-eqb _ _ (if3-left .if3 .left), ne-eqb _ _ (c .if4 .taken))
 
 is-blank-label-requires : tie.Need-is-blank-label-requires
 is-blank-label-requires c κs = search needs
 
 returns-5 : tie.Need-returns-5
 unfolding shape.deliveryBlank
-returns-5 c = rw (eq-eqb _ _ (c .before .before .before .before .before .before .before .before .if1 .left), eq-eqb _ _ (c .before .before .before .before .before .before .if2 .left), eq-eqb _ _ (c .before .before .before .before .if3 .left), eq-eqb _ _ (c .before .before .if4 .left), ← (c .is-blank-label .ensures))
+returns-5 c =
+    let if4-left = c .before .before in
+    let if3-left = if4-left .before .before in
+    let if2-left = if3-left .before .before in
+    let if1-left = if2-left .before .before in
+    rw (eq-eqb _ _ (if1-left .if1 .left), eq-eqb _ _ (if2-left .if2 .left), eq-eqb _ _ (if3-left .if3 .left), eq-eqb _ _ (if4-left .if4 .left), ← (c .is-blank-label .ensures))
 
 pub is-blank-delivery-spec : {M : Type 1} → statement M
 is-blank-delivery-spec =

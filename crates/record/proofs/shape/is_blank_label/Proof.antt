@@ -39,18 +39,23 @@ loop-less c = search needs
 
 loop-again : tie.Need-loop-again Inv-loop μ-loop
 loop-again c =
-    let l = c .before .before .before .before .before .args .t1 in
-    let at = c .before .before .before .loop in
+    let at-loop = c .before .before .before in
+    let start = at-loop .before .before in
+    let l = start .args .t1 in
+    let at = at-loop .loop in
     let past = le-ltb (at .at) (l .len) (omega arith) in
     (search needs, allTo-next _ _ _ _ (at .inv .1) (c .own-byte .ensures ∙ ap (λ (b : Bool). ownByte b (getD (l .bytes) (at .at) 0)) (sym past)))
 
 returns-2 : tie.Need-returns-2 Inv-loop μ-loop
 unfolding shape.blankLabel shape.padded
 returns-2 c =
-    let l = c .before .before .before .args .t1 in
+    let at-loop = c .before in
+    let if1-left = at-loop .before in
+    let start = if1-left .before in
+    let l = start .args .t1 in
     let size : length (l .bytes) ≡ 16 = search needs in
-    let end : c .before .loop .at ≡ 16 = omega arith in
-    rw (eq-eqb _ _ (c .before .before .if1 .left), eq-eqb _ _ size) (rw end at (c .before .loop .inv .1))
+    let end : at-loop .loop .at ≡ 16 = omega arith in
+    rw (eq-eqb _ _ (if1-left .if1 .left), eq-eqb _ _ size) (rw end at (at-loop .loop .inv .1))
 
 pub is-blank-label-spec : {M : Type 1} → statement M
 is-blank-label-spec =

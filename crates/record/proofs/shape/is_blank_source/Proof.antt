@@ -18,7 +18,10 @@ is-blank-label-requires c κs = search needs
 
 returns-2 : tie.Need-returns-2
 unfolding shape.sourceBlank
-returns-2 c = rw (sym (c .before .before .before .is-blank-plant .ensures) ∙ not-false _ (c .before .before .if1 .left), ← (c .is-blank-label .ensures))
+returns-2 c =
+    let if1-left = c .before .before in
+    let after-is-blank-plant = if1-left .before in
+    rw (sym (after-is-blank-plant .is-blank-plant .ensures) ∙ not-false _ (if1-left .if1 .left), ← (c .is-blank-label .ensures))
 
 pub is-blank-source-spec : {M : Type 1} → statement M
 is-blank-source-spec =

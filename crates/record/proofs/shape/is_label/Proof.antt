@@ -18,7 +18,10 @@ is-padded-requires c κs = search needs
 
 returns-3 : tie.Need-returns-3
 unfolding shape.ownLabel
-returns-3 c = rw (le-leb _ _ (c .before .before .before .if1 .left), le-leb _ _ (c .before .if2 .left), ← (c .is-padded .ensures))
+returns-3 c =
+    let if2-left = c .before in
+    let if1-left = if2-left .before .before in
+    rw (le-leb _ _ (if1-left .if1 .left), le-leb _ _ (if2-left .if2 .left), ← (c .is-padded .ensures))
 
 pub is-label-spec : {M : Type 1} → statement M
 is-label-spec = tie.close (tie.spec returns returns-2 is-padded-requires returns-3)

@@ -38,18 +38,23 @@ loop-less c = search needs
 
 loop-again : tie.Need-loop-again Inv-loop μ-loop
 loop-again c =
-    let at = c .before .before .before .loop in
-    let l = c .before .before .before .before .before .args .t1 in (
+    let at-loop = c .before .before .before in
+    let after-size = at-loop .before in
+    let start = after-size .before in
+    let at = at-loop .loop in
+    let l = start .args .t1 in (
       search needs,
-      allTo-next _ _ _ _ (at .inv .1) (c .own-byte .ensures ∙ ap (λ (n : ℕ). ownByte (ltb (at .i) n) (getD (l .bytes) (at .i) 0)) (c .before .before .before .before .size .ensures)),
+      allTo-next _ _ _ _ (at .inv .1) (c .own-byte .ensures ∙ ap (λ (n : ℕ). ownByte (ltb (at .i) n) (getD (l .bytes) (at .i) 0)) (after-size .size .ensures)),
     )
 
 returns : tie.Need-returns Inv-loop μ-loop
 unfolding shape.padded
 returns c =
-    let size : length (c .before .before .before .args .t1 .bytes) ≡ 16 = search needs in
-    let end : c .before .loop .i ≡ 16 = omega arith in
-    rw (eq-eqb _ _ size) (rw end at (c .before .loop .inv .1))
+    let at-loop = c .before in
+    let start = at-loop .before .before in
+    let size : length (start .args .t1 .bytes) ≡ 16 = search needs in
+    let end : at-loop .loop .i ≡ 16 = omega arith in
+    rw (eq-eqb _ _ size) (rw end at (at-loop .loop .inv .1))
 
 pub is-padded-spec : {M : Type 1} → statement M
 is-padded-spec =
