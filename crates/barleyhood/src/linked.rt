@@ -1,6 +1,6 @@
 // The calls for C: on numbers and slices, each a pointer and a length. include/barleyhood.h says what a caller needs to know.
-// An answer is a count or codes' codeOf of a refusal, which is 2^32 or more, or a label's place. The contracts cite rules' definitions, Linked for the answer
-// and places' for a label's place.
+// An answer is a count or refusals' codeOf of a refusal, which is 2^32 or more, or a label's place. The contracts cite rules' definitions, Linked for the answer
+// and label_places' for a label's place.
 ghost use mathlib.Core.Path.{_≡_};
 ghost use lib.ListN.{length};
 ghost use Rattle.rules.specs.Calls.{reporting, leaves};

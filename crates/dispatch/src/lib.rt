@@ -1,6 +1,6 @@
 // Two engines with one promise, for unloading (up is false) and credits (up is true): the total is taken of sources with room, the best MWh first.
 // A source enters as a falling line of merit, in three arrays. `plain` takes one MWh at a time; `price` leaves out sources that cannot compete, finds
-// a mark, takes all above it at once, and the rest by blocks. The definitions are in specs/ and in `marks`. Internal: they know no hour, and the caller gives lines and room.
+// a mark, takes all above it at once, and the rest by blocks. The definitions are in specs/ and in `cutoff`. Internal: they know no hour, and the caller gives lines and room.
 use cutoff::LANES;
 ghost use mathlib.Core.Bool.{true, false};
 ghost use mathlib.Core.Path.{_≡_};

@@ -12,7 +12,7 @@ use Rattle.rules.specs.Reading.{reading}
 use Rattle.rules.specs.Record as records
 use Rattle.rules.specs.Refusals.{Outcome, accepted, refused}
 use Rattle.rules.specs.declared.Hour.{Hour}
-use Rattle.roundtrip.specs.DeckAtMost7018.{accepted-at-most}
+use Rattle.roundtrip.specs.DeckFits.{accepted-at-most}
 use Rattle.roundtrip.specs.GivenHour.{accepted-given}
 use Rattle.deck.specs.Answers.{readAnswer}
 use Rattle.deck.specs.declared.ReadHour.{ReadHour}

@@ -22,7 +22,7 @@ use Rattle.laws.specs.Choices.{both-true}
 use Rattle.laws.specs.Sums.{below-suc}
 use Rattle.roundtrip.specs.Labels.{label-from}
 use Rattle.roundtrip.specs.Lines.{lineLabelled}
-use Rattle.roundtrip.specs.DeckAtMost7018.{escape-most}
+use Rattle.roundtrip.specs.DeckFits.{escape-most}
 use Rattle.roundtrip.specs.OwnLines.{valid-own}
 
 -- each line of a valid hour has the labels that it should

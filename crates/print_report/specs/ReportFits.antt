@@ -19,7 +19,7 @@ use Rattle.rules.specs.Report.{hour, pair, internal, end, refusal, pairLine, op
 use Rattle.rules.specs.declared.Hour.{Hour}
 use Rattle.rules.specs.declared.InternalSequence.{InternalSequence}
 use Rattle.rules.specs.declared.Refusal.{Refusal}
-use Rattle.roundtrip.specs.DeckAtMost7018.{digits-most}
+use Rattle.roundtrip.specs.DeckFits.{digits-most}
 use Rattle.roundtrip.specs.DeckRoundTrip.{accepted-is-valid}
 use Rattle.roundtrip.specs.GivenHour.{valid-given}
 use Rattle.balance.specs.AnswerCells.{cellAt, pairPlace, openPlace, pair-at, open-at}

@@ -10,7 +10,7 @@ use read_fields::NumberField;
 use read_fields::Step;
 use rules::Basis;
 
-// Each number is cut as text cuts it; where a label's own bytes start and end; last the place after the line.
+// Each number is cut as read_fields cuts it; where a label's own bytes start and end; last the place after the line.
 
 // Losses.
 pub enum HeadLine {

@@ -9,7 +9,7 @@ pub mod Grown
 pub mod SameHour
 pub mod OwnLines
 pub mod AcceptedIsWriting
-pub mod DeckAtMost7018
+pub mod DeckFits
 pub mod ValidReadsBack
 pub mod DeckRoundTrip
 pub mod Loop

@@ -19,7 +19,7 @@ use Rattle.laws.specs.Choices.{both-true, accepted-same, then-passed}
 use Rattle.roundtrip.specs.Lines.{lineLabelled, lineSize, line-read, line-past, line-length}
 use Rattle.roundtrip.specs.Taken.{taken-passed}
 use Rattle.roundtrip.specs.OwnLines.{OwnLines, head-passed, valid-own}
-use Rattle.roundtrip.specs.DeckAtMost7018.{own-at-most}
+use Rattle.roundtrip.specs.DeckFits.{own-at-most}
 
 -- a line has a byte
 texts-length : (ls : List Line) (rest : List ℕ) → length ls + length rest ≤ length (texts ls rest)

@@ -1,4 +1,4 @@
--- `marks::count` meets its contract: both returns are the stock as the code finds it, and its products are small.
+-- `cutoff::count` meets its contract: both returns are the stock as the code finds it, and its products are small.
 use native.Mathlib.Omega.{arith}
 use borrow.Author.Needs.{needs}
 use Rattle.cutoff.specs.Tally.{stock-more, stock-same}

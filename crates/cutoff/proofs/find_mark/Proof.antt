@@ -1,4 +1,4 @@
--- `marks::find_mark` meets its contract: the best mark so far holds no more than the total, and the rounds left fall.
+-- `cutoff::find_mark` meets its contract: the best mark so far holds no more than the total, and the rounds left fall.
 use mathlib.Core.Path.{sym}
 use mathlib.Core.Logic.{⊎-elim}
 use Prim.Native.Nat.{_-_, _≤_}

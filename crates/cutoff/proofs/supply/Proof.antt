@@ -1,4 +1,4 @@
--- `marks::supply` meets its contract: the sum so far is that of the stocks passed.
+-- `cutoff::supply` meets its contract: the sum so far is that of the stocks passed.
 use mathlib.Core.Path.{_≡_}
 use Prim.Native.Nat.{_-_, _≤_}
 use native.Mathlib.Omega.{arith}

@@ -1,4 +1,4 @@
--- `lines::curve_at` meets its contract: the way to each return is the way through the curve's chain of answers.
+-- `read_lines::curve_at` meets its contract: the way to each return is the way through the curve's chain of answers.
 use borrow.Author.Needs.{needs}
 use Rattle.read_lines.proofs.Chains.{curve-chain}
 use Rattle.read_lines.proofs.curve_at.Statement.{statement}

@@ -1,4 +1,4 @@
--- `lines::unit` meets its contract: the way to each return is the way through the line's chain of answers.
+-- `read_lines::unit` meets its contract: the way to each return is the way through the line's chain of answers.
 use borrow.Author.Needs.{needs}
 use Rattle.read_lines.proofs.Chains.{unit-chain}
 use Rattle.read_lines.proofs.unit.Statement.{statement}

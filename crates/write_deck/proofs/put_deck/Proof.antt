@@ -1,4 +1,4 @@
--- `put::put_deck` meets its contract. The lines one after another.
+-- `write_deck::put_deck` meets its contract. The lines one after another.
 use borrow.Author.Needs.{needs}
 use Rattle.rules.specs.Record.{sourceAt, deliveryAt, directAt, sourceLine, deliveryLine, directLine, headLine}
 use Rattle.write_fields.specs.Inked.{inked-then, room-first, room-after}

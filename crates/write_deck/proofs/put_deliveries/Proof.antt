@@ -1,4 +1,4 @@
--- `put::put_deliveries` meets its contract. The loop's invariant: the first i lines stand.
+-- `write_deck::put_deliveries` meets its contract. The loop's invariant: the first i lines stand.
 use borrow.Author.Needs.{needs}
 use Prim.Native.Nat.{_≤_, _-_}
 use mathlib.Core.Path.{refl}

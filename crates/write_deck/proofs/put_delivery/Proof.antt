@@ -1,4 +1,4 @@
--- `put::put_delivery` meets its contract. One entry's line.
+-- `write_deck::put_delivery` meets its contract. One entry's line.
 use borrow.Author.Needs.{needs}
 use mathlib.Core.List.{[]}
 use Rattle.write_fields.specs.Inked.{inked-as, room-as}

@@ -1,4 +1,4 @@
--- `put::put_direct` meets its contract. The letter, the basis, the percent, both labels and LF.
+-- `write_deck::put_direct` meets its contract. The letter, the basis, the percent, both labels and LF.
 use borrow.Author.Needs.{needs}
 use mathlib.Core.List.{[], _∷_}
 use Rattle.rules.specs.Fields.{basisText}

@@ -1,4 +1,4 @@
--- `put::put_end` meets its contract. The letter and LF.
+-- `write_deck::put_end` meets its contract. The letter and LF.
 use borrow.Author.Needs.{needs}
 use mathlib.Core.List.{[]}
 use Rattle.write_fields.specs.Inked.{inked-as, room-as}

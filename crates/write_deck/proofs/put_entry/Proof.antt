@@ -1,4 +1,4 @@
--- `put::put_entry` meets its contract. The letter, the numbers, the label and LF.
+-- `write_deck::put_entry` meets its contract. The letter, the numbers, the label and LF.
 use borrow.Author.Needs.{needs}
 use Rattle.rules.specs.Record.{chars}
 use Rattle.write_fields.specs.Inked.{inked-then, room-first, room-after, front-byte}

@@ -1,4 +1,4 @@
--- `put::put_head` meets its contract. The letter, the losses and LF.
+-- `write_deck::put_head` meets its contract. The letter, the losses and LF.
 use borrow.Author.Needs.{needs}
 use mathlib.Core.List.{[]}
 use Rattle.write_fields.specs.Inked.{inked-as, inked-then, room-as, room-first, room-after, front-byte}

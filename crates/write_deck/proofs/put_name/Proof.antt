@@ -1,4 +1,4 @@
--- `put::put_name` meets its contract. A space, then the label.
+-- `write_deck::put_name` meets its contract. A space, then the label.
 use borrow.Author.Needs.{needs}
 use Rattle.write_fields.specs.Inked.{inked-then, room-first, room-after, front-byte}
 use Rattle.write_deck.proofs.put_name.Statement.{statement}

@@ -1,4 +1,4 @@
--- `put::put_source` meets its contract. By the plant's three cases.
+-- `write_deck::put_source` meets its contract. By the plant's three cases.
 use borrow.Author.Needs.{needs}
 use mathlib.Core.List.{[]}
 use Rattle.rules.specs.Record.{chars}

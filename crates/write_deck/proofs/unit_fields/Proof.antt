@@ -1,4 +1,4 @@
--- `put::unit_fields` meets its contract: what the curve's methods give.
+-- `write_deck::unit_fields` meets its contract: what the curve's methods give.
 use borrow.Author.Needs.{needs}
 use Rattle.write_deck.proofs.unit_fields.Statement.{statement}
 use Rattle.write_deck.proofs.unit_fields.Tie as tie

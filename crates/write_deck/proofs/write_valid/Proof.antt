@@ -1,10 +1,10 @@
--- `put::write_valid` meets its contract. The deck stands in the writer's own buffer, which always has room; it is handed over where it fits.
+-- `write_deck::write_valid` meets its contract. The deck stands in the writer's own buffer, which always has room; it is handed over where it fits.
 use borrow.Author.Needs.{needs}
 use mathlib.Core.Path.{ap}
 use native.Mathlib.Omega.{arith}
 use lib.ListN.{length}
 use Rattle.rules.specs.Writing.{deckText}
-use Rattle.roundtrip.specs.DeckAtMost7018.{valid-at-most}
+use Rattle.roundtrip.specs.DeckFits.{valid-at-most}
 use Rattle.write_deck.specs.Verdict.{first-bytes, wrote-short, wrote-fits}
 use Rattle.write_deck.proofs.write_valid.Statement.{statement}
 use Rattle.write_deck.proofs.write_valid.Tie as tie

@@ -1,4 +1,4 @@
--- `marks::guess::between` meets its contract: its products are small.
+-- `cutoff::guess::between` meets its contract: its products are small.
 use Prim.Native.Nat.{_*_, _/_, _≤_}
 use native.Mathlib.Omega.{arith}
 use native.Mathlib.Nat.{mul-le-mul, div-le-self}

@@ -1,4 +1,4 @@
--- `marks::guess::ends` meets its contract: the index is within the sources.
+-- `cutoff::guess::ends` meets its contract: the index is within the sources.
 use Prim.Native.Nat.{_-_, _≤_}
 use borrow.Author.Needs.{needs}
 use Rattle.cutoff.proofs.guess.ends.Statement.{statement}

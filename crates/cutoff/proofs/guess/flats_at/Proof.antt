@@ -1,4 +1,4 @@
--- `marks::guess::flats_at` meets its contract: the index is within the sources.
+-- `cutoff::guess::flats_at` meets its contract: the index is within the sources.
 use Prim.Native.Nat.{_-_, _≤_}
 use borrow.Author.Needs.{needs}
 use Rattle.cutoff.proofs.guess.flats_at.Statement.{statement}

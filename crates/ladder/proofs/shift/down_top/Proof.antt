@@ -1,4 +1,4 @@
--- `shift::down_top` meets its contract: each plant has its line down from the level; of one price, any level will do.
+-- `ladder::shift::down_top` meets its contract: each plant has its line down from the level; of one price, any level will do.
 use mathlib.Core.Bool.{false}
 use native.Mathlib.Omega.{arith}
 use borrow.Author.Needs.{needs}

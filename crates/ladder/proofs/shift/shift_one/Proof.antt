@@ -1,4 +1,4 @@
--- `shift::shift_one` meets its contract, up or down.
+-- `ladder::shift::shift_one` meets its contract, up or down.
 use mathlib.Core.Bool.{Bool, true, false}
 use Prim.Native.Nat.{ℕ, _≤_}
 use native.Mathlib.Omega.{arith}

@@ -1,4 +1,4 @@
--- `shift::step_of` meets its contract: a unit's curve tells it, and no other price moves.
+-- `ladder::shift::step_of` meets its contract: a unit's curve tells it, and no other price moves.
 use native.Mathlib.Omega.{arith}
 use borrow.Author.Needs.{needs}
 use Rattle.merit.specs.NumbersStaySmall.{PlantSmall}

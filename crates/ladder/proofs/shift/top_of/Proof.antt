@@ -1,4 +1,4 @@
--- `shift::top_of` meets its contract: down or up.
+-- `ladder::shift::top_of` meets its contract: down or up.
 use Rattle.ladder.proofs.shift.top_of.Statement.{statement}
 use Rattle.ladder.proofs.shift.top_of.Tie as tie
 

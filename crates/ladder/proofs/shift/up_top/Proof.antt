@@ -1,4 +1,4 @@
--- `shift::up_top` meets its contract: each plant has its line up from the level; of one price, any level will do.
+-- `ladder::shift::up_top` meets its contract: each plant has its line up from the level; of one price, any level will do.
 use mathlib.Core.Bool.{true}
 use native.Mathlib.Omega.{arith}
 use borrow.Author.Needs.{needs}

@@ -1,4 +1,4 @@
--- `shares::part_up_to` meets its contract; the product fits.
+-- `members::shares::part_up_to` meets its contract; the product fits.
 use native.Mathlib.Nat.{mul-le-mul}
 use native.Mathlib.Omega.{arith}
 use borrow.Author.Needs.{needs}

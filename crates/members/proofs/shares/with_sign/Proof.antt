@@ -1,4 +1,4 @@
--- `shares::with_sign` meets its contract: such a size fits the signed keys.
+-- `members::shares::with_sign` meets its contract: such a size fits the signed keys.
 use Prim.Native.Nat.{ℕ, _^_, _≤_, _<_}
 use native.Mathlib.Omega.{arith}
 use borrow.Author.Needs.{needs}
