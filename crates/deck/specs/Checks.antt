@@ -18,7 +18,7 @@ use Rattle.rules.specs.declared.Verdict.{Verdict}
 use Rattle.rules.specs.declared.Verdict.the-variants.{Accepted, Refused}
 use Rattle.read_fields.specs.Answers.{stepOf}
 use Rattle.read_lines.specs.Answers.{deliveryLine, directLine}
-use Rattle.line_rules.specs.Tried.{countsOf, Few, nextLine, Tables, unitHigh, basisCode}
+use Rattle.line_rules.specs.Tried.{countsOf, Few, nextLine, Tables, unitHigh, basisCode, aboveOne}
 use Rattle.line_rules.specs.TablesKept.{noTables}
 use Rattle.line_rules.specs.Totalled.{noTotals, sourceTotalled, deliveryTotalled, finishedBy, finished-by}
 use Rattle.line_rules.specs.declared.Counts.{Counts}
@@ -64,7 +64,7 @@ module _ (s : List ℕ) (o : Outcome Hour) (losses : ℕ) (n : Counts) (t : Tabl
   -- One entry more.
 
   pub checks-source : (r : SourceStep) → SourceTurn s (w .hour) t at r → r .verdict ≡ Accepted → (slo shi high : List ℕ) (v : Totals) → slo ≡ set (t .slo) (n .sources) (r .key .lo)
-      → shi ≡ set (t .shi) (n .sources) (r .key .hi) → high ≡ set (t .high) (n .sources) (unitHigh (r .entry .plant)) → v ≡ sourceTotalled u (r .entry .plant) → v .generated ≤ u .generated + 4294967296
+      → shi ≡ set (t .shi) (n .sources) (r .key .hi) → high ≡ set (t .high) (n .sources) (unitHigh (r .entry .plant)) → v ≡ sourceTotalled u (r .entry .plant) → v .generated ≤ u .generated + aboveOne
       → Checks s o losses (record { sources = n .sources + 1; deliveries = n .deliveries; directs = n .directs })
       (record { slo = slo; shi = shi; tlo = t .tlo; thi = t .thi; high = high; based = t .based; percents = t .percents }) v (r .next)
   checks-source r e a slo shi high v le hie he ve most =
@@ -78,7 +78,7 @@ module _ (s : List ℕ) (o : Outcome Hour) (losses : ℕ) (n : Counts) (t : Tabl
       }
 
   pub checks-delivery : (r : DeliveryStep) → DeliveryTurn s (w .hour) t at r → r .verdict ≡ Accepted → (tlo thi : List ℕ) (v : Totals) → tlo ≡ set (t .tlo) (n .deliveries) (r .key .lo)
-      → thi ≡ set (t .thi) (n .deliveries) (r .key .hi) → v ≡ deliveryTotalled u (r .entry) → v .delivered ≤ u .delivered + 4294967296
+      → thi ≡ set (t .thi) (n .deliveries) (r .key .hi) → v ≡ deliveryTotalled u (r .entry) → v .delivered ≤ u .delivered + aboveOne
       → Checks s o losses (record { sources = n .sources; deliveries = n .deliveries + 1; directs = n .directs })
       (record { slo = t .slo; shi = t .shi; tlo = tlo; thi = thi; high = t .high; based = t .based; percents = t .percents }) v (r .next)
   checks-delivery r e a tlo thi v le hie ve most =

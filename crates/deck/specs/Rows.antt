@@ -34,7 +34,7 @@ use Rattle.laws.specs.Answers.{verdict-accepted}
 use Rattle.roundtrip.specs.Taken.{finished-passed}
 use Rattle.roundtrip.specs.Loop.{Going, goes-malformed, goes-end, goes-past}
 use Rattle.read_fields.specs.Answers.{stepOf}
-use Rattle.line_rules.specs.Tried.{Tables, unitHigh, basisCode}
+use Rattle.line_rules.specs.Tried.{Tables, unitHigh, basisCode, aboveOne}
 use Rattle.line_rules.specs.Kept.{Kept}
 use Rattle.line_rules.specs.TablesKept.{noTables, kept-started}
 use Rattle.line_rules.specs.Totalled.{noTotals, sourceTotalled, deliveryTotalled, Totalled, totalled-none, totalled-source, totalled-delivery}
@@ -131,7 +131,7 @@ module _ (s : List ℕ) (o : Outcome Hour) (h : Hour) (t : Tables) (u : Totals) 
   -- One entry more, set in the tables and added to the totals.
 
   pub reads-source : (r : SourceStep) → SourceTurn s h t at r → r .verdict ≡ Accepted → (slo shi high : List ℕ) (v : Totals) → slo ≡ set (t .slo) (h .nsources) (r .key .lo)
-      → shi ≡ set (t .shi) (h .nsources) (r .key .hi) → high ≡ set (t .high) (h .nsources) (unitHigh (r .entry .plant)) → v ≡ sourceTotalled u (r .entry .plant) → v .generated ≤ u .generated + 4294967296
+      → shi ≡ set (t .shi) (h .nsources) (r .key .hi) → high ≡ set (t .high) (h .nsources) (unitHigh (r .entry .plant)) → v ≡ sourceTotalled u (r .entry .plant) → v .generated ≤ u .generated + aboveOne
       → Reads s o (withSource h (r .entry))
       (record { slo = slo; shi = shi; tlo = t .tlo; thi = t .thi; high = high; based = t .based; percents = t .percents }) v (r .next)
   reads-source r e a slo shi high v le hie he ve most =
@@ -144,7 +144,7 @@ module _ (s : List ℕ) (o : Outcome Hour) (h : Hour) (t : Tables) (u : Totals) 
       }
 
   pub reads-delivery : (r : DeliveryStep) → DeliveryTurn s h t at r → r .verdict ≡ Accepted → (tlo thi : List ℕ) (v : Totals) → tlo ≡ set (t .tlo) (h .ndeliveries) (r .key .lo)
-      → thi ≡ set (t .thi) (h .ndeliveries) (r .key .hi) → v ≡ deliveryTotalled u (r .entry) → v .delivered ≤ u .delivered + 4294967296
+      → thi ≡ set (t .thi) (h .ndeliveries) (r .key .hi) → v ≡ deliveryTotalled u (r .entry) → v .delivered ≤ u .delivered + aboveOne
       → Reads s o (withDelivery h (r .entry))
       (record { slo = t .slo; shi = t .shi; tlo = tlo; thi = thi; high = t .high; based = t .based; percents = t .percents }) v (r .next)
   reads-delivery r e a tlo thi v le hie ve most =
@@ -214,7 +214,7 @@ module _ (s : List ℕ) (o : Outcome Hour) (h : Hour) (t : Tables) (u : Totals) 
 -- the same with places
 module _ (s : List ℕ) (o : Outcome Hour) (h : Hour) (t : Tables) (u : Totals) (ps qs : List Place) (at : ℕ) (w : Rows s o h t u ps qs at) where
   pub rows-source : (r : SourceStep) → SourceTurn s h t at r → r .verdict ≡ Accepted → (slo shi high : List ℕ) (v : Totals) → slo ≡ set (t .slo) (h .nsources) (r .key .lo)
-      → shi ≡ set (t .shi) (h .nsources) (r .key .hi) → high ≡ set (t .high) (h .nsources) (unitHigh (r .entry .plant)) → v ≡ sourceTotalled u (r .entry .plant) → v .generated ≤ u .generated + 4294967296
+      → shi ≡ set (t .shi) (h .nsources) (r .key .hi) → high ≡ set (t .high) (h .nsources) (unitHigh (r .entry .plant)) → v ≡ sourceTotalled u (r .entry .plant) → v .generated ≤ u .generated + aboveOne
       → Rows s o (withSource h (r .entry))
       (record { slo = slo; shi = shi; tlo = t .tlo; thi = t .thi; high = high; based = t .based; percents = t .percents }) v
       (set ps (h .nsources) (r .place)) qs (r .next)
@@ -227,7 +227,7 @@ module _ (s : List ℕ) (o : Outcome Hour) (h : Hour) (t : Tables) (u : Totals) 
       }
 
   pub rows-delivery : (r : DeliveryStep) → DeliveryTurn s h t at r → r .verdict ≡ Accepted → (tlo thi : List ℕ) (v : Totals) → tlo ≡ set (t .tlo) (h .ndeliveries) (r .key .lo)
-      → thi ≡ set (t .thi) (h .ndeliveries) (r .key .hi) → v ≡ deliveryTotalled u (r .entry) → v .delivered ≤ u .delivered + 4294967296
+      → thi ≡ set (t .thi) (h .ndeliveries) (r .key .hi) → v ≡ deliveryTotalled u (r .entry) → v .delivered ≤ u .delivered + aboveOne
       → Rows s o (withDelivery h (r .entry))
       (record { slo = t .slo; shi = t .shi; tlo = tlo; thi = thi; high = t .high; based = t .based; percents = t .percents }) v
       ps (set qs (h .ndeliveries) (r .place)) (r .next)

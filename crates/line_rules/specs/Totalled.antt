@@ -29,7 +29,7 @@ use Rattle.laws.specs.Choices.{true-not-false, false-not-true}
 use Rattle.laws.specs.Sums.{sumTo-none, sumTo-more, sumTo-same}
 use Rattle.roundtrip.specs.FirstUnplaced.{placer}
 use Rattle.line_rules.specs.Keys.{spotOf}
-use Rattle.line_rules.specs.Tried.{countsOf, isFound, generatedTo, deliveredTo}
+use Rattle.line_rules.specs.Tried.{countsOf, isFound, aboveOne, generatedTo, deliveredTo}
 use Rattle.line_rules.specs.Finds.{found-any}
 use Rattle.line_rules.specs.Answers.{finished-overdrawn, finished-none, finished-placed, finished-unplaced}
 use Rattle.line_rules.specs.declared.Counts.{Counts}
@@ -61,8 +61,8 @@ pub record Totalled (sources : List Source) (n : ℕ) (deliveries : List Deliver
   pub generated : t .generated ≡ generatedTo sources n
   pub delivered : t .delivered ≡ deliveredTo deliveries m
   pub numbered : t .numbered ≡ numberedTo deliveries m
-  pub most-generated : t .generated ≤ n * 4294967296
-  pub most-delivered : t .delivered ≤ m * 4294967296
+  pub most-generated : t .generated ≤ n * aboveOne
+  pub most-delivered : t .delivered ≤ m * aboveOne
 
 pub totalled-none : (sources : List Source) (deliveries : List Delivery) → Totalled sources 0 deliveries 0 noTotals
 unfolding words.anyTo
@@ -82,7 +82,7 @@ any-more p n = rw add-one
 
 module _ (ss : List Source) (n : ℕ) (ds : List Delivery) (m : ℕ) (t : Totals) (k : Totalled ss n ds m t) where
   pub totalled-source : (ss′ : List Source) (x : Source) (u : Totals) → ((i : ℕ) → i < n → getD ss′ i noSource ≡ getD ss i noSource) → getD ss′ n noSource ≡ x
-      → u ≡ sourceTotalled t (x .plant) → u .generated ≤ t .generated + 4294967296 → Totalled ss′ (n + 1) ds m u
+      → u ≡ sourceTotalled t (x .plant) → u .generated ≤ t .generated + aboveOne → Totalled ss′ (n + 1) ds m u
   totalled-source ss′ x u same new e most =
       record {
         generated = ap (λ (u : Totals). u .generated) e
@@ -94,7 +94,7 @@ module _ (ss : List Source) (n : ℕ) (ds : List Delivery) (m : ℕ) (t : Totals
       }
 
   pub totalled-delivery : (ds′ : List Delivery) (x : Delivery) (u : Totals) → ((i : ℕ) → i < m → getD ds′ i noDelivery ≡ getD ds i noDelivery) → getD ds′ m noDelivery ≡ x
-      → u ≡ deliveryTotalled t x → u .delivered ≤ t .delivered + 4294967296 → Totalled ss n ds′ (m + 1) u
+      → u ≡ deliveryTotalled t x → u .delivered ≤ t .delivered + aboveOne → Totalled ss n ds′ (m + 1) u
   totalled-delivery ds′ x u same new e most =
       let all : anyTo (λ i. not (toPlace (getD ds i noDelivery))) m ≡ anyTo (λ i. not (toPlace (getD ds′ i noDelivery))) m
       = any-same _ _ m (λ i l. ap (λ (x : Delivery). not (toPlace x)) (sym (same i l))) in

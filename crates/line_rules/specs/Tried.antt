@@ -135,6 +135,13 @@ directTried n inRange x t =
 
 -- After E.
 
+-- above every number of 32 bits, and above the sum of 32 of them
+abbrev pub aboveOne : ℕ
+aboveOne = 4294967296
+
+abbrev pub aboveAll : ℕ
+aboveAll = 137438953472
+
 -- what the first n sources generate, and what the first n deliveries take
 abbrev pub generatedTo : List Source → ℕ → ℕ
 generatedTo sources n = sumTo (λ i. generation (getD sources i noSource .plant)) n

@@ -1,5 +1,5 @@
 // Document 01's rules 2 to 9 tried in their order on one more line of a growing hour, and 10 and 11 at its end.
-// Contracts cite rules' Reading, and of this crate Keys (labels as numbers) and Tried (2 to 9 on tables kept beside the hour). Internal: the deck's crates and the test of 15 call it.
+// Contracts cite rules' Reading, and of this crate Keys (labels as numbers), Tried (2 to 9 on tables kept beside the hour) and Totalled (10 and 11 on totals kept beside it). Internal: the deck's crates and the test of 15 call it.
 ghost use mathlib.Core.Path.{_≡_};
 ghost use mathlib.Core.Bool.{not, _&&_};
 ghost use Prim.Native.Nat.{_+_, _≤_, _<_};
@@ -9,7 +9,7 @@ ghost use Rattle.rules.specs.Answers.{verdictOf};
 ghost use Rattle.rules.specs.Units.{generation, ordered, levelled};
 ghost use Rattle.rules.specs.Reading.{generated, delivered};
 ghost use Rattle.line_rules.specs.Keys.{halfOf, keyOf, sameKey, keyFound};
-ghost use Rattle.line_rules.specs.Tried.{entryOf, Few, nextLine, labelTried, sourceTried, deliveryTried, unitHigh, basisCode, codeLeaves, belowMost, pairFound, directTried, generatedTo, deliveredTo};
+ghost use Rattle.line_rules.specs.Tried.{entryOf, Few, nextLine, labelTried, sourceTried, deliveryTried, unitHigh, basisCode, codeLeaves, belowMost, pairFound, directTried, aboveOne, aboveAll, generatedTo, deliveredTo};
 ghost use Rattle.line_rules.specs.Totalled.{sourceTotalled, deliveryTotalled, finishedBy};
 use rules::Basis;
 use rules::Delivery;
@@ -75,7 +75,7 @@ fn byte(b: u8) -> u64
 }
 
 pub fn wide(x: u32) -> u64
-    ensures { λ r. ⌜ (r ≡ x) × (r < 4294967296) ⌝ }
+    ensures { λ r. ⌜ (r ≡ x) × (r < aboveOne) ⌝ }
 {
     x as u64
 }
@@ -384,8 +384,8 @@ fn generation_of(p: Plant) -> u32
 
 // One source more.
 pub fn add_source(t: Totals, p: Plant) -> Totals
-    requires { ⌜ t .generated ≤ 137438953472 ⌝ }
-    ensures { λ r. ⌜ (r ≡ sourceTotalled t p) × (r .generated ≤ t .generated + 4294967296) ⌝ }
+    requires { ⌜ t .generated ≤ aboveAll ⌝ }
+    ensures { λ r. ⌜ (r ≡ sourceTotalled t p) × (r .generated ≤ t .generated + aboveOne) ⌝ }
 {
     Totals {
         generated: t.generated + wide(generation_of(p)),
@@ -402,8 +402,8 @@ fn has_number(x: InputSequence) -> bool
 
 // One delivery more.
 pub fn add_delivery(t: Totals, x: Delivery) -> Totals
-    requires { ⌜ t .delivered ≤ 137438953472 ⌝ }
-    ensures { λ r. ⌜ (r ≡ deliveryTotalled t x) × (r .delivered ≤ t .delivered + 4294967296) ⌝ }
+    requires { ⌜ t .delivered ≤ aboveAll ⌝ }
+    ensures { λ r. ⌜ (r ≡ deliveryTotalled t x) × (r .delivered ≤ t .delivered + aboveOne) ⌝ }
 {
     let s = x.sequence;
     let numbered = t.numbered | has_number(s);
@@ -416,7 +416,7 @@ pub fn add_delivery(t: Totals, x: Delivery) -> Totals
 
 fn generated_by(sources: [Source; 32], n: usize) -> u64
     requires { ⌜ n ≤ 32 ⌝ }
-    ensures { λ r. ⌜ (r ≡ generatedTo sources n) × (r ≤ 137438953472) ⌝ }
+    ensures { λ r. ⌜ (r ≡ generatedTo sources n) × (r ≤ aboveAll) ⌝ }
 {
     let mut sum: u64 = 0;
     let mut i: usize = 0;
@@ -431,7 +431,7 @@ fn generated_by(sources: [Source; 32], n: usize) -> u64
 
 pub fn sum_generated(h: Hour) -> u64
     requires { ⌜ h .nsources ≤ 32 ⌝ }
-    ensures { λ r. ⌜ (r ≡ generated h) × (r ≤ 137438953472) ⌝ }
+    ensures { λ r. ⌜ (r ≡ generated h) × (r ≤ aboveAll) ⌝ }
 {
     let sources = h.sources;
     generated_by(sources, h.nsources)
@@ -439,7 +439,7 @@ pub fn sum_generated(h: Hour) -> u64
 
 fn delivered_to(deliveries: [Delivery; 32], n: usize) -> u64
     requires { ⌜ n ≤ 32 ⌝ }
-    ensures { λ r. ⌜ (r ≡ deliveredTo deliveries n) × (r ≤ 137438953472) ⌝ }
+    ensures { λ r. ⌜ (r ≡ deliveredTo deliveries n) × (r ≤ aboveAll) ⌝ }
 {
     let mut sum: u64 = 0;
     let mut i: usize = 0;
@@ -453,7 +453,7 @@ fn delivered_to(deliveries: [Delivery; 32], n: usize) -> u64
 
 pub fn sum_delivered(h: Hour) -> u64
     requires { ⌜ h .ndeliveries ≤ 32 ⌝ }
-    ensures { λ r. ⌜ (r ≡ delivered h) × (r ≤ 137438953472) ⌝ }
+    ensures { λ r. ⌜ (r ≡ delivered h) × (r ≤ aboveAll) ⌝ }
 {
     let deliveries = h.deliveries;
     delivered_to(deliveries, h.ndeliveries)
@@ -461,7 +461,7 @@ pub fn sum_delivered(h: Hour) -> u64
 
 // After E: 10 and 11. Where no delivery has a number of its own, the first of all is the first without.
 pub fn finish(n: Counts, losses: u32, t: Totals) -> Verdict
-    requires { ⌜ Few n × (t .delivered ≤ 137438953472) ⌝ }
+    requires { ⌜ Few n × (t .delivered ≤ aboveAll) ⌝ }
     ensures { λ r. ⌜ r ≡ finishedBy n losses t ⌝ }
 {
     if t.generated < wide(losses) + t.delivered {

@@ -4,12 +4,12 @@ use Prim.Native.Nat.{_-_, _*_, _≤_}
 use native.Mathlib.Omega.{arith}
 use borrow.Author.Needs.{needs}
 use Rattle.laws.specs.Sums.{sumTo-none, sumTo-more, sumTo-end}
-use Rattle.line_rules.specs.Tried.{deliveredTo}
+use Rattle.line_rules.specs.Tried.{aboveOne, deliveredTo}
 use Rattle.line_rules.proofs.delivered_to.Statement.{statement}
 use Rattle.line_rules.proofs.delivered_to.Tie as tie
 
 abbrev Inv-loop : tie.InvT-loop
-Inv-loop n deliveries sum₀ i₀ sum i = (i ≤ n) × (sum ≤ i * 4294967296) × (sum ≡ deliveredTo deliveries i)
+Inv-loop n deliveries sum₀ i₀ sum i = (i ≤ n) × (sum ≤ i * aboveOne) × (sum ≡ deliveredTo deliveries i)
 
 abbrev μ-loop : tie.MeasureT-loop
 μ-loop n deliveries sum₀ i₀ sum i = n - i

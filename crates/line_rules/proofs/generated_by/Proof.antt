@@ -4,12 +4,12 @@ use Prim.Native.Nat.{_-_, _*_, _≤_}
 use native.Mathlib.Omega.{arith}
 use borrow.Author.Needs.{needs}
 use Rattle.laws.specs.Sums.{sumTo-none, sumTo-more, sumTo-end}
-use Rattle.line_rules.specs.Tried.{generatedTo}
+use Rattle.line_rules.specs.Tried.{aboveOne, generatedTo}
 use Rattle.line_rules.proofs.generated_by.Statement.{statement}
 use Rattle.line_rules.proofs.generated_by.Tie as tie
 
 abbrev Inv-loop : tie.InvT-loop
-Inv-loop n sources sum₀ i₀ sum i = (i ≤ n) × (sum ≤ i * 4294967296) × (sum ≡ generatedTo sources i)
+Inv-loop n sources sum₀ i₀ sum i = (i ≤ n) × (sum ≤ i * aboveOne) × (sum ≡ generatedTo sources i)
 
 abbrev μ-loop : tie.MeasureT-loop
 μ-loop n sources sum₀ i₀ sum i = n - i
