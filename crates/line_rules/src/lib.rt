@@ -372,23 +372,13 @@ pub fn take_direct(
     })
 }
 
-fn generation_of(p: Plant) -> u32
-    ensures { λ r. ⌜ r ≡ generation p ⌝ }
-{
-    match p {
-        Plant::Unit(u) => u.g,
-        Plant::Purchase { g, rate } => g,
-        Plant::Fixed { g } => g,
-    }
-}
-
 // One source more.
 pub fn add_source(t: Totals, p: Plant) -> Totals
     requires { ⌜ t .generated ≤ aboveAll ⌝ }
     ensures { λ r. ⌜ (r ≡ sourceTotalled t p) × (r .generated ≤ t .generated + aboveOne) ⌝ }
 {
     Totals {
-        generated: t.generated + wide(generation_of(p)),
+        generated: t.generated + wide(p.generation()),
         delivered: t.delivered,
         numbered: t.numbered,
     }
@@ -423,7 +413,7 @@ fn generated_by(sources: [Source; 32], n: usize) -> u64
     while i < n {
         let x = sources[i];
         let p = x.plant;
-        sum = sum + wide(generation_of(p));
+        sum = sum + wide(p.generation());
         i += 1;
     }
     sum

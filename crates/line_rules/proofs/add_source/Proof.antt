@@ -5,8 +5,8 @@ use borrow.Author.Needs.{needs}
 use Rattle.line_rules.proofs.add_source.Statement.{statement}
 use Rattle.line_rules.proofs.add_source.Tie as tie
 
-generation-of-requires : tie.Need-generation-of-requires
-generation-of-requires c κs = search needs
+generation-requires : tie.Need-generation-requires
+generation-requires c κs = search needs
 
 wide-requires : tie.Need-wide-requires
 wide-requires c κs = search needs
@@ -17,7 +17,7 @@ add-t5 c = search needs
 returns : tie.Need-returns
 returns c =
     let after-wide = c .before in
-    (rw (after-wide .wide .ensures .0 ∙ after-wide .before .generation-of .ensures), omega (arith, after-wide .wide .ensures .1))
+    (rw (after-wide .wide .ensures .0 ∙ after-wide .before .generation .ensures), omega (arith, after-wide .wide .ensures .1))
 
 pub add-source-spec : {M : Type 1} → statement M
-add-source-spec = tie.close (tie.spec generation-of-requires wide-requires add-t5 returns)
+add-source-spec = tie.close (tie.spec generation-requires wide-requires add-t5 returns)

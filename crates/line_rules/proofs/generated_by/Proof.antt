@@ -23,8 +23,8 @@ mul-x c = search needs
 array-copy-out-x : tie.Need-array-copy-out-x Inv-loop μ-loop
 array-copy-out-x c = search needs
 
-generation-of-requires : tie.Need-generation-of-requires Inv-loop μ-loop
-generation-of-requires c κs = search needs
+generation-requires : tie.Need-generation-requires Inv-loop μ-loop
+generation-requires c κs = search needs
 
 wide-requires : tie.Need-wide-requires Inv-loop μ-loop
 wide-requires c κs = search needs
@@ -40,9 +40,9 @@ loop-less c = search needs
 
 loop-again : tie.Need-loop-again Inv-loop μ-loop
 loop-again c =
-    let after-generation-of = c .before in
-    let at-loop = after-generation-of .before .before .before in
-    (search needs, search needs, sumTo-more _ _ _ _ (at-loop .loop .inv .2) (c .wide .ensures .0 ∙ after-generation-of .generation-of .ensures))
+    let after-generation = c .before in
+    let at-loop = after-generation .before .before .before in
+    (search needs, search needs, sumTo-more _ _ _ _ (at-loop .loop .inv .2) (c .wide .ensures .0 ∙ after-generation .generation .ensures))
 
 returns : tie.Need-returns Inv-loop μ-loop
 returns c = (sumTo-end _ _ _ _ (omega arith) (omega arith) (c .before .loop .inv .2), search needs)
@@ -56,7 +56,7 @@ generated-by-spec =
     loop-holds
     mul-x
     array-copy-out-x
-    generation-of-requires
+    generation-requires
     wide-requires
     add-sum
     add-i
