@@ -112,7 +112,7 @@ module _ {deck : List ℕ} {x : ScannedDeck} {ns : List InternalSequence} {cells
   -- where the open lines' cells begin
   pub base-fits : h .ndeliveries * (h .nsources * pairWidth) ≤ 4096
   base-fits =
-      let n : h .nsources * 4 ≤ 128 = omega (arith, given .sources .few) in
+      let n : h .nsources * pairWidth ≤ 128 = omega (arith, given .sources .few) in
       omega (arith, mul-le-mul (given .deliveries .few) n)
 
   pub sources-held : Held deck (x .sources)
