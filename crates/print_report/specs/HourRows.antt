@@ -13,13 +13,14 @@ use Rattle.rules.specs.Group.{noRunning, openCost, directMwh, incrementalMwh, d
 use Rattle.rules.specs.Fields.{escape}
 use Rattle.rules.specs.Record.{chars, sourceAt, deliveryAt}
 use Rattle.rules.specs.Hour as hours
-use Rattle.rules.specs.Hour.{numbers, internalAt, Progress, reconstructed, pairCells, openCells, cellsOf, cellCount, answer}
+use Rattle.rules.specs.Hour.{pairWidth, openWidth, keys, keyAt, Progress, reconstructed, pairCells, openCells, cellsOf, cellCount, answer}
 use Rattle.rules.specs.Reading.{generated, delivered, reading}
 use Rattle.rules.specs.Report as reports
 use Rattle.rules.specs.Report.{hour, end, headerLine, pairLine, openLine, report}
 use Rattle.rules.specs.Writing.{valid}
 use Rattle.rules.specs.declared.Hour.{Hour}
 use Rattle.rules.specs.declared.InternalSequence.{InternalSequence}
+use Rattle.rules.specs.declared.Key.{Key}
 use Rattle.roundtrip.specs.DeckRoundTrip.{accepted-is-valid}
 use Rattle.roundtrip.specs.GivenHour.{GivenHour, accepted-given}
 use Rattle.balance.specs.AnswerCells.{cellAt, pairPlace, openPlace, pair-at, open-at, cells-length}
@@ -30,7 +31,6 @@ use Rattle.deck.specs.declared.ScannedDeck.{ScannedDeck}
 use Rattle.write_fields.specs.Inked.{Text, Room, Inked, Front, inked-place, inked-first, upTo, front-upTo}
 use Rattle.print_lines.specs.Lines.{pairText, openText, printed, line-pair, pair-line, open-line, front-printed}
 use Rattle.print_report.specs.Rows.{Held, ShortLabels, SmallFirst, partAt, headAt, pairAt, rowAt, openAt, front-row-at, front-opens, row-within, upTo-same}
-use Rattle.print_report.specs.Widths.{pairWidth, openWidth}
 use Rattle.print_report.specs.LabelsShort.{labels-short}
 use Rattle.print_report.specs.HourReport.{pairsText, opensText, hourText, hour-lines}
 
@@ -47,30 +47,30 @@ module _ (f : Text) (w buf : List ℕ) (same : f [] ≡ w) (fits : length w ≤ 
   pub whole-written : (b : List ℕ) (n : ℕ) → Inked buf 0 b n f → (n ≡ length w) × (b ≡ w ++ drop (length w) buf)
   whole-written b n e = (omega (arith, inked-place e, ap length same), inked-first e whole-room ∙ ap (λ (w : List ℕ). w ++ drop (length w) buf) same)
 
--- a deck that was scanned, and its hour's numbers and cells
-pub record Answered (deck : List ℕ) (x : ScannedDeck) (ns : List InternalSequence) (cells : List ℤ) : Type 0 where
+-- a deck that was scanned, and its hour's keys and cells
+pub record Answered (deck : List ℕ) (x : ScannedDeck) (ks : List Key) (cells : List ℤ) : Type 0 where
   pub read : reading deck ≡ accepted (x .hour)
   pub scanned : Scanned deck (accepted (x .hour)) x
   pub progress : Progress
   pub run : reconstructed (x .hour) ≡ accepted progress
   pub after : List ℤ
   pub is : cells ≡ cellsOf (x .hour) progress ++ after
-  pub numbered : (j : ℕ) → j < x .hour .ndeliveries → internalAt ns j ≡ internalAt (numbers (x .hour)) j
+  pub numbered : (j : ℕ) → j < x .hour .ndeliveries → keyAt ks j .number ≡ keyAt (keys (x .hour)) j .number
 
 -- the rows, before any rest
-abbrev pub rowsText : List ℕ → ScannedDeck → List InternalSequence → List ℤ → Text
-rowsText deck x ns cells = upTo (rowAt deck (x .sources) (x .hour .nsources) (x .deliveries) ns cells) (x .hour .ndeliveries)
+abbrev pub rowsText : List ℕ → ScannedDeck → List Key → List ℤ → Text
+rowsText deck x ks cells = upTo (rowAt deck (x .sources) (x .hour .nsources) (x .deliveries) ks cells) (x .hour .ndeliveries)
 
 abbrev pub leftText : List ℕ → ScannedDeck → List ℤ → Text
 leftText deck x cells = upTo (openAt deck (x .sources) cells (x .hour .ndeliveries * (x .hour .nsources * pairWidth))) (x .hour .nsources)
 
-abbrev pub writtenText : List ℕ → ScannedDeck → List InternalSequence → List ℤ → Text
-writtenText deck x ns cells rest = printed (headerLine (x .hour)) (rowsText deck x ns cells (leftText deck x cells (printed end rest)))
+abbrev pub writtenText : List ℕ → ScannedDeck → List Key → List ℤ → Text
+writtenText deck x ks cells rest = printed (headerLine (x .hour)) (rowsText deck x ks cells (leftText deck x cells (printed end rest)))
 
-pub front-rows : (deck : List ℕ) (x : ScannedDeck) (ns : List InternalSequence) (cells : List ℤ) → Front (rowsText deck x ns cells)
-front-rows deck x ns cells =
+pub front-rows : (deck : List ℕ) (x : ScannedDeck) (ks : List Key) (cells : List ℤ) → Front (rowsText deck x ks cells)
+front-rows deck x ks cells =
     let n = x .hour .nsources in
-    front-upTo (rowAt deck (x .sources) n (x .deliveries) ns cells) (λ j. front-row-at deck (x .sources) n (x .deliveries) ns cells j) (x .hour .ndeliveries)
+    front-upTo (rowAt deck (x .sources) n (x .deliveries) ks cells) (λ j. front-row-at deck (x .sources) n (x .deliveries) ks cells j) (x .hour .ndeliveries)
 
 pub front-left : (deck : List ℕ) (x : ScannedDeck) (cells : List ℤ) → Front (leftText deck x cells)
 front-left deck x cells = front-opens deck (x .sources) cells (x .hour .ndeliveries * (x .hour .nsources * pairWidth)) (x .hour .nsources)
@@ -86,7 +86,7 @@ pair-same a b c d e f rest = rw (a, b, c, d, e, f)
 open-same : {s t : List ℕ} {x u y v : ℤ} → s ≡ t → x ≡ u → y ≡ v → (rest : List ℕ) → openText s x y rest ≡ openText t u v rest
 open-same a b c rest = rw (a, b, c)
 
-module _ {deck : List ℕ} {x : ScannedDeck} {ns : List InternalSequence} {cells : List ℤ} (a : Answered deck x ns cells) where
+module _ {deck : List ℕ} {x : ScannedDeck} {ks : List Key} {cells : List ℤ} (a : Answered deck x ks cells) where
   abbrev h : Hour
   h = x .hour
 
@@ -137,7 +137,7 @@ module _ {deck : List ℕ} {x : ScannedDeck} {ns : List InternalSequence} {cells
   open-cell i k at m n e = ap (cellAt cells) e ∙ cell-is (openPlace h i k) (omega arith) ∙ open-at h p i k m n
 
   pair-written : (j i : ℕ) → j < h .ndeliveries → i < h .nsources → (rest : List ℕ)
-      → pairAt deck (x .sources) cells (j * (h .nsources * pairWidth)) (headAt deck (x .deliveries) ns j) i rest ≡ printed (pairLine h p j i) rest
+      → pairAt deck (x .sources) cells (j * (h .nsources * pairWidth)) (headAt deck (x .deliveries) ks j) i rest ≡ printed (pairLine h p j i) rest
   pair-written j i l m rest =
       let k = j * (h .nsources * pairWidth) + i * pairWidth in
       let c : (n at : ℕ) → n < pairWidth → at ≡ pairPlace h j i n → cellAt cells at ≡ getD (pairCells (p .cells) j i) n (pos 0) = λ n at l′ e. pair-cell j i n at l m l′ e in
@@ -145,9 +145,9 @@ module _ {deck : List ℕ} {x : ScannedDeck} {ns : List InternalSequence} {cells
       let three = c 3 (k + 3) (omega arith) (omega arith) in
       let sum : cellAt cells (k + 2) +ℤ cellAt cells (k + 3) ≡ p .cells j i directCost +ℤ p .cells j i incrementalCost =
       ap (λ (z : ℤ). z +ℤ cellAt cells (k + 3)) two ∙ ap (λ (z : ℤ). p .cells j i directCost +ℤ z) three in
-      line-pair (partAt deck (x .deliveries) j) (internalAt ns j) (partAt deck (x .sources) i) (cellAt cells k) (cellAt cells (k + 1)) (cellAt cells (k + 2) +ℤ cellAt cells (k + 3)) rest
+      line-pair (partAt deck (x .deliveries) j) (keyAt ks j .number) (partAt deck (x .sources) i) (cellAt cells k) (cellAt cells (k + 1)) (cellAt cells (k + 2) +ℤ cellAt cells (k + 3)) rest
       ∙ pair-same (delivery-part j l) (a .numbered j l) (source-part i m) (c 0 k (omega arith) (omega arith)) (c 1 (k + 1) (omega arith) (omega arith)) sum rest
-      ∙ pair-line (chars (deliveryAt h j .label)) (internalAt (numbers h) j) (chars (sourceAt h i .label)) (p .cells j i directMwh) (p .cells j i incrementalMwh) (p .cells j i directCost +ℤ p .cells j i incrementalCost) rest
+      ∙ pair-line (chars (deliveryAt h j .label)) (keyAt (keys h) j .number) (chars (sourceAt h i .label)) (p .cells j i directMwh) (p .cells j i incrementalMwh) (p .cells j i directCost +ℤ p .cells j i incrementalCost) rest
 
   open-written : (i : ℕ) → i < h .nsources → (rest : List ℕ) → openAt deck (x .sources) cells (h .ndeliveries * (h .nsources * pairWidth)) i rest ≡ printed (openLine h p i) rest
   open-written i m rest =
@@ -155,23 +155,23 @@ module _ {deck : List ℕ} {x : ScannedDeck} {ns : List InternalSequence} {cells
       open-same (source-part i m) (open-cell i 0 (b + i * openWidth) m (omega arith) (omega arith)) (open-cell i 1 (b + i * openWidth + 1) m (omega arith) (omega arith)) rest
       ∙ open-line (chars (sourceAt h i .label)) (getD (p .states) i noRunning .v) (openCost (getD (p .states) i noRunning)) rest
 
-  hour-written : (rest : List ℕ) → writtenText deck x ns cells rest ≡ hourText h p rest
+  hour-written : (rest : List ℕ) → writtenText deck x ks cells rest ≡ hourText h p rest
   hour-written rest =
-      ap (λ (w : List ℕ). printed (headerLine h) (rowsText deck x ns cells w))
+      ap (λ (w : List ℕ). printed (headerLine h) (rowsText deck x ks cells w))
       (upTo-same (openAt deck (x .sources) cells (h .ndeliveries * (h .nsources * pairWidth))) (λ i. printed (openLine h p i)) (h .nsources) open-written (printed end rest))
       ∙ ap (printed (headerLine h))
-      (upTo-same (rowAt deck (x .sources) (h .nsources) (x .deliveries) ns cells) (pairsText h p) (h .ndeliveries)
-      (λ j l. upTo-same (pairAt deck (x .sources) cells (j * (h .nsources * pairWidth)) (headAt deck (x .deliveries) ns j)) (λ i. printed (pairLine h p j i)) (h .nsources) (λ i m. pair-written j i l m))
+      (upTo-same (rowAt deck (x .sources) (h .nsources) (x .deliveries) ks cells) (pairsText h p) (h .ndeliveries)
+      (λ j l. upTo-same (pairAt deck (x .sources) cells (j * (h .nsources * pairWidth)) (headAt deck (x .deliveries) ks j)) (λ i. printed (pairLine h p j i)) (h .nsources) (λ i m. pair-written j i l m))
       (opensText h p (printed end rest)))
 
-  pub report-is : writtenText deck x ns cells [] ≡ report deck
+  pub report-is : writtenText deck x ks cells [] ≡ report deck
   unfolding reports.report reports.reportLines
   report-is = hour-written [] ∙ hour-lines h p ∙ rw (a .read, a .run)
 
   -- its length, part by part
-  pub report-length : length (printed (headerLine h) []) + length (rowsText deck x ns cells []) + length (leftText deck x cells []) + length (printed end []) ≡ length (report deck)
+  pub report-length : length (printed (headerLine h) []) + length (rowsText deck x ks cells []) + length (leftText deck x cells []) + length (printed end []) ≡ length (report deck)
   report-length =
       let last = printed end [] in
       let opens = leftText deck x cells last in
-      let rows = rowsText deck x ns cells opens in
-      omega (arith, ap length report-is, front-printed (headerLine h) .longer rows, front-rows deck x ns cells .longer opens, front-left deck x cells .longer last)
+      let rows = rowsText deck x ks cells opens in
+      omega (arith, ap length report-is, front-printed (headerLine h) .longer rows, front-rows deck x ks cells .longer opens, front-left deck x cells .longer last)

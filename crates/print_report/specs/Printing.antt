@@ -16,9 +16,9 @@ use Rattle.rules.specs.Report as reports
 use Rattle.rules.specs.Report.{refusal, report}
 use Rattle.rules.specs.Writing.{valid}
 use Rattle.rules.specs.Calls as calls
-use Rattle.rules.specs.Calls.{reconstruction, reporting, leaves}
+use Rattle.rules.specs.Calls.{cellsFor, reporting, leaves}
 use Rattle.rules.specs.declared.Hour.{Hour}
-use Rattle.rules.specs.declared.InternalSequence.{InternalSequence}
+use Rattle.rules.specs.declared.Key.{Key}
 use Rattle.rules.specs.declared.Refusal.{Refusal}
 use Rattle.rules.specs.Answers.{writtenOf}
 use Rattle.rules.specs.declared.Refusal.the-variants.{Short}
@@ -49,10 +49,10 @@ pub record Run (h : Hour) (cells : List ℤ) : Type 0 where
   pub after : List ℤ
   pub is : cells ≡ cellsOf h progress ++ after
 
--- the answer of a valid hour, where its cells fit
-pub filled : (h : Hour) (out : List ℤ) → valid h ≡ true → cellCount h ≤ length out → reconstruction h (length out) ≡ answer h
-unfolding calls.reconstruction
-filled h out v l = rw (v, le-ltb (length out) (cellCount h) l)
+-- the answer of an hour, where its cells fit
+pub filled : (h : Hour) (out : List ℤ) → cellCount h ≤ length out → cellsFor h (length out) ≡ answer h
+unfolding calls.cellsFor
+filled h out l = rw (le-ltb (length out) (cellCount h) l)
 
 module _ (h : Hour) where
   pub run-refused : (r : Refusal) → NotWritten r ≡ writtenOf (answer h) → reconstructed h ≡ refused r
@@ -77,20 +77,20 @@ pub record Ended (h : Hour) (end : Written) (cells : List ℤ) : Type 0 where
   pub outcome : end ≡ writtenOf (answer h)
   pub left : cells ≡ leaves (answer h) before
 
--- a deck that is accepted, and its hour's numbers
-pub record ReadDeck (deck : List ℕ) (x : ScannedDeck) (ns : List InternalSequence) : Type 0 where
+-- a deck that is accepted, and its hour's keys
+pub record ReadDeck (deck : List ℕ) (x : ScannedDeck) (ks : List Key) : Type 0 where
   pub read : reading deck ≡ accepted (x .hour)
   pub scanned : Scanned deck (accepted (x .hour)) x
-  pub numbered : ns ≡ placings (x .hour .deliveries) (x .hour .ndeliveries)
+  pub numbered : ks ≡ placings (x .hour .deliveries) (x .hour .ndeliveries)
 
-pub read-deck : (deck : List ℕ) (x : ScannedDeck) (ns : List InternalSequence) → Scanned deck (reading deck) x → x .verdict ≡ Accepted
-    → ns ≡ placings (x .hour .deliveries) (x .hour .ndeliveries) → ReadDeck deck x ns
-read-deck deck x ns s v n =
+pub read-deck : (deck : List ℕ) (x : ScannedDeck) (ks : List Key) → Scanned deck (reading deck) x → x .verdict ≡ Accepted
+    → ks ≡ placings (x .hour .deliveries) (x .hour .ndeliveries) → ReadDeck deck x ks
+read-deck deck x ks s v n =
     let e = scanned-accepted deck x s v in
     record { read = e; scanned = rw e at s; numbered = n }
 
-pub run-answered : (deck : List ℕ) (x : ScannedDeck) (ns : List InternalSequence) (cells : List ℤ) → ReadDeck deck x ns → Run (x .hour) cells → Answered deck x ns cells
-run-answered deck x ns cells d r =
+pub run-answered : (deck : List ℕ) (x : ScannedDeck) (ks : List Key) (cells : List ℤ) → ReadDeck deck x ks → Run (x .hour) cells → Answered deck x ks cells
+run-answered deck x ks cells d r =
     record {
       read = d .read;
       scanned = d .scanned;

@@ -11,7 +11,7 @@ use Rattle.rules.specs.Group.{noRunning, openCost, directMwh, incrementalMwh, d
 use Rattle.rules.specs.Fields as fields
 use Rattle.rules.specs.Fields.{digits, escape, Chars}
 use Rattle.rules.specs.Record.{chars, sourceAt, deliveryAt}
-use Rattle.rules.specs.Hour.{numbers, internalAt, Progress, reconstructed, cellsOf, pairCells, openCells}
+use Rattle.rules.specs.Hour.{pairWidth, openWidth, keys, keyAt, Progress, reconstructed, cellsOf, pairCells, openCells}
 use Rattle.rules.specs.Reading.{generated, delivered, reading}
 use Rattle.rules.specs.Writing.{valid}
 use Rattle.rules.specs.Report as reports
@@ -34,7 +34,6 @@ use Rattle.print_lines.specs.Amounts.{sum-most}
 use Rattle.print_report.specs.HourReport.{pairsText, opensText, hour-lines}
 use Rattle.print_report.specs.LabelsShort.{labels-short}
 use Rattle.print_report.specs.HourRows.{small-cells}
-use Rattle.print_report.specs.Widths.{pairWidth, openWidth}
 
 -- as many as no report passes
 abbrev pub mostReport : ℕ
@@ -132,7 +131,7 @@ module _ (h : Hour) (p : Progress) (v : valid h ≡ true) (run : reconstructed h
   pair-line-short j l i m rest =
       let small : (k : ℕ) → k < pairWidth → SmallCell (getD (pairCells (p .cells) j i) k (pos 0)) = λ k n. pair-small j i k l m n in
       let labels = labels-short h v in
-      pair-short (chars (deliveryAt h j .label)) (internalAt (numbers h) j) (chars (sourceAt h i .label)) (p .cells j i directMwh) (p .cells j i incrementalMwh) (p .cells j i directCost +ℤ p .cells j i incrementalCost)
+      pair-short (chars (deliveryAt h j .label)) (keyAt (keys h) j .number) (chars (sourceAt h i .label)) (p .cells j i directMwh) (p .cells j i incrementalMwh) (p .cells j i directCost +ℤ p .cells j i incrementalCost)
       (labels .deliveries j l) (numbers-below h (valid-sequences h v) j) (labels .sources i m) (omega (arith, small 0 (omega arith))) (omega (arith, small 1 (omega arith)))
       (sum-most (p .cells j i directCost) (p .cells j i incrementalCost) (small 2 (omega arith)) (small 3 (omega arith))) rest
 

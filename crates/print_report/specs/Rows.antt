@@ -12,8 +12,9 @@ use mir.Facts.{toZ-ofZ}
 use mir.Syntax.{w64}
 use mir.Val.{SFits}
 use Rattle.rules.specs.Fields.{digits}
-use Rattle.rules.specs.Hour.{internalAt}
+use Rattle.rules.specs.Hour.{pairWidth, openWidth, keyAt}
 use Rattle.rules.specs.declared.InternalSequence.{InternalSequence}
+use Rattle.rules.specs.declared.Key.{Key}
 use Rattle.balance.specs.AnswerCells.{cellAt}
 use Rattle.balance.specs.CellsFit.{SmallCell}
 use Rattle.deck.specs.Answers.{nowhere, bytesOf}
@@ -24,7 +25,6 @@ use Rattle.write_fields.specs.Lengths.{digits-few}
 use Rattle.print_lines.specs.Lines.{headText, lineText, openText, front-line, front-open}
 use Rattle.print_lines.specs.Amounts.{held, line-held, open-held, same-sum, sum-fits, sum-most, fits-below}
 use Rattle.print_report.specs.declared.Amounts.{Amounts}
-use Rattle.print_report.specs.Widths.{pairWidth, openWidth}
 
 -- each place lies in the deck
 pub record Held (deck : List ℕ) (ps : List Place) : Type 0 where
@@ -50,12 +50,12 @@ abbrev pub rowText : List ℕ → List Place → ℕ → List ℤ → ℕ → Li
 rowText deck sources n cells base head = upTo (pairAt deck sources cells base head) n
 
 -- what the lines of delivery j begin with
-abbrev pub headAt : List ℕ → List Place → List InternalSequence → ℕ → List ℕ
-headAt deck deliveries numbers j = headText (partAt deck deliveries j) (internalAt numbers j) []
+abbrev pub headAt : List ℕ → List Place → List Key → ℕ → List ℕ
+headAt deck deliveries keys j = headText (partAt deck deliveries j) (keyAt keys j .number) []
 
 -- delivery j with each source
-abbrev pub rowAt : List ℕ → List Place → ℕ → List Place → List InternalSequence → List ℤ → ℕ → Text
-rowAt deck sources n deliveries numbers cells j = rowText deck sources n cells (j * (n * pairWidth)) (headAt deck deliveries numbers j)
+abbrev pub rowAt : List ℕ → List Place → ℕ → List Place → List Key → List ℤ → ℕ → Text
+rowAt deck sources n deliveries keys cells j = rowText deck sources n cells (j * (n * pairWidth)) (headAt deck deliveries keys j)
 
 -- what source i has left, its cells from a place on
 abbrev pub openAt : List ℕ → List Place → List ℤ → ℕ → ℕ → Text
@@ -72,8 +72,8 @@ front-open-at deck sources cells base i = front-open (partAt deck sources i) (ce
 pub front-row : (deck : List ℕ) (sources : List Place) (n : ℕ) (cells : List ℤ) (base : ℕ) (head : List ℕ) → Front (rowText deck sources n cells base head)
 front-row deck sources n cells base head = front-upTo (pairAt deck sources cells base head) (λ i. front-pair-at deck sources cells base head i) n
 
-pub front-row-at : (deck : List ℕ) (sources : List Place) (n : ℕ) (deliveries : List Place) (numbers : List InternalSequence) (cells : List ℤ) (j : ℕ) → Front (rowAt deck sources n deliveries numbers cells j)
-front-row-at deck sources n deliveries numbers cells j = front-row deck sources n cells (j * (n * pairWidth)) (headAt deck deliveries numbers j)
+pub front-row-at : (deck : List ℕ) (sources : List Place) (n : ℕ) (deliveries : List Place) (keys : List Key) (cells : List ℤ) (j : ℕ) → Front (rowAt deck sources n deliveries keys cells j)
+front-row-at deck sources n deliveries keys cells j = front-row deck sources n cells (j * (n * pairWidth)) (headAt deck deliveries keys j)
 
 pub front-opens : (deck : List ℕ) (sources : List Place) (cells : List ℤ) (base n : ℕ) → Front (upTo (openAt deck sources cells base) n)
 front-opens deck sources cells base n = front-upTo (openAt deck sources cells base) (λ i. front-open-at deck sources cells base i) n
@@ -189,10 +189,10 @@ module _ (deck : List ℕ) (sources : List Place) (cells : List ℤ) (base i : �
       (fits _ _ (is .cost) (sum-most (cellAt cells (k + 2)) (cellAt cells (k + 3)) (c 2 (omega arith)) (c 3 (omega arith)))) rest
       ∙ line-same head e (is .direct) (is .incremental) (is .cost) rest
 
-pub row-at-held : (deck : List ℕ) (sources : List Place) (n : ℕ) (deliveries : List Place) (numbers : List InternalSequence) (cells : List ℤ) (j : ℕ) (head : List ℕ) → head ≡ headAt deck deliveries numbers j
-    → (rest : List ℕ) → rowText deck sources n cells (j * (n * pairWidth)) head rest ≡ rowAt deck sources n deliveries numbers cells j rest
-row-at-held deck sources n deliveries numbers cells j head e rest = ap (λ (w : List ℕ). rowText deck sources n cells (j * (n * pairWidth)) w rest) e
+pub row-at-held : (deck : List ℕ) (sources : List Place) (n : ℕ) (deliveries : List Place) (keys : List Key) (cells : List ℤ) (j : ℕ) (head : List ℕ) → head ≡ headAt deck deliveries keys j
+    → (rest : List ℕ) → rowText deck sources n cells (j * (n * pairWidth)) head rest ≡ rowAt deck sources n deliveries keys cells j rest
+row-at-held deck sources n deliveries keys cells j head e rest = ap (λ (w : List ℕ). rowText deck sources n cells (j * (n * pairWidth)) w rest) e
 
 -- the head of delivery j, of its part as it was cut
-pub head-at : (deck : List ℕ) (deliveries : List Place) (numbers : List InternalSequence) (j : ℕ) (part head : List ℕ) → part ≡ partAt deck deliveries j → head ≡ headText part (internalAt numbers j) [] → head ≡ headAt deck deliveries numbers j
-head-at deck deliveries numbers j part head e f = f ∙ ap (λ (w : List ℕ). headText w (internalAt numbers j) []) e
+pub head-at : (deck : List ℕ) (deliveries : List Place) (keys : List Key) (j : ℕ) (part head : List ℕ) → part ≡ partAt deck deliveries j → head ≡ headText part (keyAt keys j .number) [] → head ≡ headAt deck deliveries keys j
+head-at deck deliveries keys j part head e f = f ∙ ap (λ (w : List ℕ). headText w (keyAt keys j .number) []) e

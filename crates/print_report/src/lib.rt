@@ -7,21 +7,20 @@ ghost use Prim.Native.Nat.{_+_, _*_, _^_, _≤_, _<_};
 ghost use lib.ListN.{length, drop};
 ghost use Rattle.rules.specs.Answers.{writtenOf};
 ghost use Rattle.rules.specs.Refusals.{numberOf, placeOf};
-ghost use Rattle.rules.specs.Hour.{cellCount, answer};
+ghost use Rattle.rules.specs.Hour.{pairWidth, openWidth, cellCount, answer};
 ghost use Rattle.rules.specs.Report.{refusal, report};
 ghost use Rattle.rules.specs.Writing.{valid};
 ghost use Rattle.rules.specs.Calls.{reporting, leaves};
 ghost use Rattle.sequence.specs.Placings.{placings};
 ghost use Rattle.write_fields.specs.Inked.{Room, Inked, upTo};
 ghost use Rattle.print_lines.specs.Lines.{printed};
-ghost use Rattle.print_report.specs.Widths.{pairWidth, openWidth};
 ghost use Rattle.print_report.specs.Rows.{Held, ShortLabels, SmallFirst, Summed, rowText, rowAt, openAt};
 ghost use Rattle.print_report.specs.HourRows.{Answered};
 ghost use Rattle.print_report.specs.Printing.{ReadDeck, Ended, handed};
 use deck::Place;
 use deck::ScannedDeck;
 use rules::Hour;
-use rules::InternalSequence;
+use rules::Key;
 use rules::Refusal;
 use rules::Verdict;
 use rules::Written;
@@ -98,20 +97,20 @@ fn put_rows(
     n: usize,
     deliveries: [Place; 32],
     m: usize,
-    numbers: [InternalSequence; 32],
+    keys: [Key; 32],
     cells: &[i64],
 ) -> usize
-    requires { ⌜ (n ≤ 32) × (m ≤ 32) × Held (now deck) sources × Held (now deck) deliveries × ShortLabels (now deck) deliveries m × SmallFirst (now cells) (m * (n * pairWidth)) × Room (now buf) at (upTo (rowAt (now deck) sources n deliveries numbers (now cells)) m []) ⌝ }
-    ensures { λ r. ⌜ Inked (now (buf .entry)) at (now (buf .exit)) r (upTo (rowAt (now (deck .entry)) sources n deliveries numbers (now (cells .entry))) m) ⌝ }
+    requires { ⌜ (n ≤ 32) × (m ≤ 32) × Held (now deck) sources × Held (now deck) deliveries × ShortLabels (now deck) deliveries m × SmallFirst (now cells) (m * (n * pairWidth)) × Room (now buf) at (upTo (rowAt (now deck) sources n deliveries keys (now cells)) m []) ⌝ }
+    ensures { λ r. ⌜ Inked (now (buf .entry)) at (now (buf .exit)) r (upTo (rowAt (now (deck .entry)) sources n deliveries keys (now (cells .entry))) m) ⌝ }
 {
     let mut p = at;
     let mut j: usize = 0;
     while j < m {
         let place = deliveries[j];
         let delivery = deck::part_at(deck, place);
-        let x = numbers[j];
+        let x = keys[j];
         let mut head = [0u8; MOST_HEAD];
-        let k = print_lines::put_head(&mut head, 0, delivery, x);
+        let k = print_lines::put_head(&mut head, 0, delivery, x.number);
         p = put_row(
             buf,
             p,
@@ -155,14 +154,8 @@ fn put_opens(
 }
 
 // The report of a deck whose hour was reconstructed, from the buffer's start on; gives its length.
-fn put_hour(
-    buf: &mut [u8],
-    deck: &[u8],
-    x: ScannedDeck,
-    numbers: [InternalSequence; 32],
-    cells: &[i64],
-) -> usize
-    requires { ⌜ Answered (now deck) x numbers (now cells) × (length (report (now deck)) ≤ length (now buf)) ⌝ }
+fn put_hour(buf: &mut [u8], deck: &[u8], x: ScannedDeck, keys: [Key; 32], cells: &[i64]) -> usize
+    requires { ⌜ Answered (now deck) x keys (now cells) × (length (report (now deck)) ≤ length (now buf)) ⌝ }
     ensures size { λ r. ⌜ r ≡ length (report (now (deck .entry))) ⌝ }
     ensures bytes { λ r. ⌜ now (buf .exit) ≡ report (now (deck .entry)) ++ drop (length (report (now (deck .entry)))) (now (buf .entry)) ⌝ }
 {
@@ -174,7 +167,7 @@ fn put_hour(
     let generation = line_rules::sum_generated(h);
     let delivered = line_rules::sum_delivered(h);
     let p = print_lines::put_header(buf, 0, generation, h.losses as u64, delivered);
-    let q = put_rows(buf, p, deck, sources, n, deliveries, m, numbers, cells);
+    let q = put_rows(buf, p, deck, sources, n, deliveries, m, keys, cells);
     let r = put_opens(buf, q, deck, sources, n, cells, m * (n * PAIR_CELLS));
     print_lines::put_end(buf, r)
 }
@@ -210,20 +203,20 @@ fn rows_length(
     n: usize,
     deliveries: [Place; 32],
     m: usize,
-    numbers: [InternalSequence; 32],
+    keys: [Key; 32],
     cells: &[i64],
 ) -> usize
-    requires { ⌜ (n ≤ 32) × (m ≤ 32) × Held (now deck) sources × Held (now deck) deliveries × ShortLabels (now deck) deliveries m × SmallFirst (now cells) (m * (n * pairWidth)) × (length (upTo (rowAt (now deck) sources n deliveries numbers (now cells)) m []) < 2 ^ 64) ⌝ }
-    ensures { λ r. ⌜ r ≡ length (upTo (rowAt (now (deck .entry)) sources n deliveries numbers (now (cells .entry))) m []) ⌝ }
+    requires { ⌜ (n ≤ 32) × (m ≤ 32) × Held (now deck) sources × Held (now deck) deliveries × ShortLabels (now deck) deliveries m × SmallFirst (now cells) (m * (n * pairWidth)) × (length (upTo (rowAt (now deck) sources n deliveries keys (now cells)) m []) < 2 ^ 64) ⌝ }
+    ensures { λ r. ⌜ r ≡ length (upTo (rowAt (now (deck .entry)) sources n deliveries keys (now (cells .entry))) m []) ⌝ }
 {
     let mut size: usize = 0;
     let mut j: usize = 0;
     while j < m {
         let place = deliveries[j];
         let delivery = deck::part_at(deck, place);
-        let x = numbers[j];
+        let x = keys[j];
         let mut head = [0u8; MOST_HEAD];
-        let k = print_lines::put_head(&mut head, 0, delivery, x);
+        let k = print_lines::put_head(&mut head, 0, delivery, x.number);
         size += row_length(deck, sources, n, cells, j * (n * PAIR_CELLS), &head[0..k]);
         j += 1;
     }
@@ -248,8 +241,8 @@ fn opens_length(deck: &[u8], sources: [Place; 32], n: usize, cells: &[i64], base
     size
 }
 
-fn hour_length(deck: &[u8], x: ScannedDeck, numbers: [InternalSequence; 32], cells: &[i64]) -> usize
-    requires { ⌜ Answered (now deck) x numbers (now cells) ⌝ }
+fn hour_length(deck: &[u8], x: ScannedDeck, keys: [Key; 32], cells: &[i64]) -> usize
+    requires { ⌜ Answered (now deck) x keys (now cells) ⌝ }
     ensures { λ r. ⌜ r ≡ length (report (now (deck .entry))) ⌝ }
 {
     let h = x.hour;
@@ -260,7 +253,7 @@ fn hour_length(deck: &[u8], x: ScannedDeck, numbers: [InternalSequence; 32], cel
     let generation = line_rules::sum_generated(h);
     let delivered = line_rules::sum_delivered(h);
     let header = print_lines::header_length(generation, h.losses as u64, delivered);
-    let rows = rows_length(deck, sources, n, deliveries, m, numbers, cells);
+    let rows = rows_length(deck, sources, n, deliveries, m, keys, cells);
     let opens = opens_length(deck, sources, n, cells, m * (n * PAIR_CELLS));
     header + rows + opens + print_lines::end_length()
 }
@@ -277,30 +270,24 @@ fn hand_refusal(out: &mut [u8], x: Refusal) -> Written
 }
 
 // An hour's report into a lent buffer that may be too short for it.
-fn hand_hour(
-    out: &mut [u8],
-    deck: &[u8],
-    x: ScannedDeck,
-    numbers: [InternalSequence; 32],
-    cells: &[i64],
-) -> Written
-    requires { ⌜ Answered (now deck) x numbers (now cells) ⌝ }
+fn hand_hour(out: &mut [u8], deck: &[u8], x: ScannedDeck, keys: [Key; 32], cells: &[i64]) -> Written
+    requires { ⌜ Answered (now deck) x keys (now cells) ⌝ }
     ensures outcome { λ r. ⌜ r ≡ writtenOf (reporting (now (deck .entry)) (length (now (out .entry)))) ⌝ }
     ensures bytes { λ _. ⌜ now (out .exit) ≡ leaves (reporting (now (deck .entry)) (length (now (out .entry)))) (now (out .entry)) ⌝ }
 {
-    if out.len() < hour_length(deck, x, numbers, cells) {
+    if out.len() < hour_length(deck, x, keys, cells) {
         return Written::Refused(Refusal::Short);
     }
-    Written::Count(put_hour(out, deck, x, numbers, cells))
+    Written::Count(put_hour(out, deck, x, keys, cells))
 }
 
-// The cells of a valid hour, whose deliveries have these numbers.
-fn fill_cells(h: Hour, numbers: [InternalSequence; 32], cells: &mut [i64]) -> Written
-    requires { ⌜ (valid h ≡ true) × (numbers ≡ placings (h .deliveries) (h .ndeliveries)) × (cellCount h ≤ length (now cells)) ⌝ }
+// The cells of a valid hour, whose deliveries have these keys.
+fn fill_cells(h: Hour, keys: [Key; 32], cells: &mut [i64]) -> Written
+    requires { ⌜ (valid h ≡ true) × (keys ≡ placings (h .deliveries) (h .ndeliveries)) × (cellCount h ≤ length (now cells)) ⌝ }
     ensures outcome { λ r. ⌜ r ≡ writtenOf (answer h) ⌝ }
     ensures cells { λ _. ⌜ now (cells .exit) ≡ leaves (answer h) (now (cells .entry)) ⌝ }
 {
-    reconstruct::price(h, cells)
+    reconstruct::fill(h, keys, true, cells)
 }
 
 // The report of a deck that was read, of what its reconstruction answered and left in the cells.
@@ -308,11 +295,11 @@ fn print_answer(
     out: &mut [u8],
     deck: &[u8],
     x: ScannedDeck,
-    numbers: [InternalSequence; 32],
+    keys: [Key; 32],
     end: Written,
     cells: &[i64],
 ) -> Written
-    requires { ⌜ ReadDeck (now deck) x numbers × Ended (x .hour) end (now cells) ⌝ }
+    requires { ⌜ ReadDeck (now deck) x keys × Ended (x .hour) end (now cells) ⌝ }
     ensures outcome { λ r. ⌜ r ≡ writtenOf (reporting (now (deck .entry)) (length (now (out .entry)))) ⌝ }
     ensures bytes { λ _. ⌜ now (out .exit) ≡ leaves (reporting (now (deck .entry)) (length (now (out .entry)))) (now (out .entry)) ⌝ }
 {
@@ -320,9 +307,9 @@ fn print_answer(
         return hand_refusal(out, r);
     }
     if out.len() < MOST_REPORT {
-        return hand_hour(out, deck, x, numbers, cells);
+        return hand_hour(out, deck, x, keys, cells);
     }
-    Written::Count(put_hour(out, deck, x, numbers, cells))
+    Written::Count(put_hour(out, deck, x, keys, cells))
 }
 
 // The report of a deck into a lent buffer: nothing changed where that is too short.
@@ -337,14 +324,14 @@ pub fn report(deck: &[u8], out: &mut [u8]) -> Written
     }
     let h = x.hour;
     let deliveries = h.deliveries;
-    let numbers = sequence::numbers(deliveries, h.ndeliveries);
+    let keys = sequence::keys(deliveries, h.ndeliveries);
     let count = h.ndeliveries * (h.nsources * PAIR_CELLS) + h.nsources * OPEN_CELLS;
     if count <= FEW_CELLS {
         let mut cells = [0i64; FEW_CELLS];
-        let end = fill_cells(h, numbers, &mut cells);
-        return print_answer(out, deck, x, numbers, end, &cells);
+        let end = fill_cells(h, keys, &mut cells);
+        return print_answer(out, deck, x, keys, end, &cells);
     }
     let mut cells = [0i64; MOST_CELLS];
-    let end = fill_cells(h, numbers, &mut cells);
-    print_answer(out, deck, x, numbers, end, &cells)
+    let end = fill_cells(h, keys, &mut cells);
+    print_answer(out, deck, x, keys, end, &cells)
 }

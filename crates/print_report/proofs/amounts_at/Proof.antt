@@ -1,4 +1,4 @@
--- `print_report::amounts_at` meets its contract. Three numbers of four cells.
+-- `print_report::amounts_at` meets its contract. Three keys of four cells.
 use borrow.Author.Needs.{needs}
 use Prim.Native.Nat.{_+_}
 use native.Mathlib.Omega.{arith}

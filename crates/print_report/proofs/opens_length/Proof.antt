@@ -5,8 +5,8 @@ use mathlib.Core.List.{[]}
 use Prim.Native.Nat.{_+_, _-_, _*_, _≤_}
 use native.Mathlib.Omega.{arith}
 use lib.ListN.{length}
+use Rattle.rules.specs.Hour.{openWidth}
 use Rattle.write_fields.specs.Inked.{upTo}
-use Rattle.print_report.specs.Widths.{openWidth}
 use Rattle.print_report.specs.Rows.{openAt, front-open-at, open-at-held, length-none, length-more, length-within}
 use Rattle.print_report.proofs.opens_length.Statement.{statement}
 use Rattle.print_report.proofs.opens_length.Tie as tie

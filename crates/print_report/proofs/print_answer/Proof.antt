@@ -38,7 +38,7 @@ hand-hour-requires c κs =
     let s = enum-told .before .before .before .before in
     let ended = s .pre .1 in
     let told = enum-told .enum-told .given in
-    let answered = run-answered (s .args .deck .now) (s .args .x) (s .args .numbers) (s .args .cells .now) (s .pre .0) (run-done (s .args .x .hour) (told .0 .0) (ended .before) (s .args .cells .now) (sym (told .1) ∙ ended .outcome) (ended .left)) in
+    let answered = run-answered (s .args .deck .now) (s .args .x) (s .args .keys) (s .args .cells .now) (s .pre .0) (run-done (s .args .x .hour) (told .0 .0) (ended .before) (s .args .cells .now) (sym (told .1) ∙ ended .outcome) (ended .left)) in
     answered
 
 same-length-2 : tie.Need-same-length-2
@@ -56,7 +56,7 @@ put-hour-requires c κs =
     let s = enum-told .before .before .before .before in
     let ended = s .pre .1 in
     let told = enum-told .enum-told .given in
-    let answered = run-answered (s .args .deck .now) (s .args .x) (s .args .numbers) (s .args .cells .now) (s .pre .0) (run-done (s .args .x .hour) (told .0 .0) (ended .before) (s .args .cells .now) (sym (told .1) ∙ ended .outcome) (ended .left)) in
+    let answered = run-answered (s .args .deck .now) (s .args .x) (s .args .keys) (s .args .cells .now) (s .pre .0) (run-done (s .args .x .hour) (told .0 .0) (ended .before) (s .args .cells .now) (sym (told .1) ∙ ended .outcome) (ended .left)) in
     (answered, omega (arith, report-fits (s .args .deck .now), else1 .if1 .left))
 
 same-length-3 : tie.Need-same-length-3

@@ -10,10 +10,10 @@ use Rattle.print_report.proofs.put_hour.Statement.{statement}
 use Rattle.print_report.proofs.put_hour.Tie as tie
 
 -- the report's room
-room : (s : tie.Start) → Room (s .args .buf .now) 0 (writtenText (s .args .deck .now) (s .args .x) (s .args .numbers) (s .args .cells .now) [])
+room : (s : tie.Start) → Room (s .args .buf .now) 0 (writtenText (s .args .deck .now) (s .args .x) (s .args .keys) (s .args .cells .now) [])
 room s =
     let a = s .args in
-    whole-room (writtenText (a .deck .now) (a .x) (a .numbers) (a .cells .now)) (report (a .deck .now)) (a .buf .now) (report-is (s .pre .0)) (s .pre .1)
+    whole-room (writtenText (a .deck .now) (a .x) (a .keys) (a .cells .now)) (report (a .deck .now)) (a .buf .now) (report-is (s .pre .0)) (s .pre .1)
 
 sum-generated-requires : tie.Need-sum-generated-requires
 sum-generated-requires c κs =
@@ -54,7 +54,7 @@ put-rows-requires c κs =
       deliveries-held (s .pre .0),
       deliveries-short (s .pre .0),
       small (s .pre .0),
-      room-first (front-rows (a .deck .now) (a .x) (a .numbers) (a .cells .now)) (room-after headed (room s)),
+      room-first (front-rows (a .deck .now) (a .x) (a .keys) (a .cells .now)) (room-after headed (room s)),
     )
 
 mul-put-opens : tie.Need-mul-put-opens
@@ -103,7 +103,7 @@ returns c =
     let s = sum-generated .before .before .before .before .before .before in
     let a = s .args in
     let headed = inked-as (header-same (s .args .x .hour) (sum-generated .sum-generated .result) (sum-delivered .sum-delivered .result) (sum-generated .sum-generated .ensures .0) (sum-delivered .sum-delivered .ensures .0)) (put-header .put-header .ensures) in
-    whole-written (writtenText (a .deck .now) (a .x) (a .numbers) (a .cells .now)) (report (a .deck .now)) (a .buf .now) (report-is (s .pre .0)) (s .pre .1) _ _
+    whole-written (writtenText (a .deck .now) (a .x) (a .keys) (a .cells .now)) (report (a .deck .now)) (a .buf .now) (report-is (s .pre .0)) (s .pre .1) _ _
     (inked-then headed (inked-then (put-rows .put-rows .ensures) (inked-then (put-opens .put-opens .ensures) (put-end .put-end .ensures))))
 
 pub put-hour-spec : {M : Type 1} → statement M

@@ -5,8 +5,8 @@ use mathlib.Core.List.{[]}
 use Prim.Native.Nat.{_+_, _-_, _*_, _≤_}
 use native.Mathlib.Omega.{arith}
 use lib.ListN.{length}
+use Rattle.rules.specs.Hour.{openWidth}
 use Rattle.write_fields.specs.Inked.{Inked, upTo, inked-as, inked-none, inked-more, inked-all, room-as, room-next}
-use Rattle.print_report.specs.Widths.{openWidth}
 use Rattle.print_report.specs.Rows.{openAt, front-open-at, open-at-held}
 use Rattle.print_report.proofs.put_opens.Statement.{statement}
 use Rattle.print_report.proofs.put_opens.Tie as tie

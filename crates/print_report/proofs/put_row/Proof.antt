@@ -5,8 +5,8 @@ use mathlib.Core.List.{[]}
 use Prim.Native.Nat.{_+_, _-_, _*_, _≤_}
 use native.Mathlib.Omega.{arith}
 use lib.ListN.{length}
+use Rattle.rules.specs.Hour.{pairWidth}
 use Rattle.write_fields.specs.Inked.{Inked, upTo, inked-as, inked-none, inked-more, inked-all, room-as, room-next}
-use Rattle.print_report.specs.Widths.{pairWidth}
 use Rattle.print_report.specs.Rows.{pairAt, pair-small, front-pair-at, pair-at-held}
 use Rattle.print_report.proofs.put_row.Statement.{statement}
 use Rattle.print_report.proofs.put_row.Tie as tie

@@ -6,18 +6,17 @@ use Prim.Native.Nat.{_-_, _*_, _≤_, _<_}
 use native.Mathlib.Nat.{mul-le-mul}
 use native.Mathlib.Omega.{arith}
 use lib.ListN.{replicate}
-use Rattle.rules.specs.Hour.{internalAt}
+use Rattle.rules.specs.Hour.{pairWidth, keyAt}
 use Rattle.write_fields.specs.Inked.{Inked, upTo, inked-place, inked-as, inked-none, inked-more, inked-all, room-as, room-next}
-use Rattle.print_report.specs.Widths.{pairWidth}
 use Rattle.print_report.specs.Rows.{rowAt, front-row-at, row-small, head-room, head-bytes, head-at, row-at-held}
 use Rattle.print_report.proofs.put_rows.Statement.{statement}
 use Rattle.print_report.proofs.put_rows.Tie as tie
 
 abbrev Inv-loop : tie.InvT-loop
-Inv-loop buf₀ at deck sources n m cells deliveries numbers p₀ j₀ buf p j = (n ≤ 32) × (m ≤ 32) × (j ≤ m) × Inked buf₀ at buf p (upTo (rowAt deck sources n deliveries numbers cells) j)
+Inv-loop buf₀ at deck sources n m cells deliveries keys p₀ j₀ buf p j = (n ≤ 32) × (m ≤ 32) × (j ≤ m) × Inked buf₀ at buf p (upTo (rowAt deck sources n deliveries keys cells) j)
 
 abbrev μ-loop : tie.MeasureT-loop
-μ-loop buf₀ at deck sources n m cells deliveries numbers p₀ j₀ buf p j = m - j
+μ-loop buf₀ at deck sources n m cells deliveries keys p₀ j₀ buf p j = m - j
 
 loop-holds : tie.Need-loop-holds Inv-loop μ-loop
 loop-holds c = (search needs, search needs, search needs, inked-none _ _ _)
@@ -49,7 +48,7 @@ put-head-requires c κs =
     let at-loop = part-at .before .before .before in
     let s = at-loop .before .before .before in
     let a = s .args in
-    head-room (a .deck .now) (a .t6) (a .m) (part-at .part-at .result .now) (internalAt (a .t8) (at-loop .loop .j)) (replicate 64 0) (at-loop .loop .j) (omega arith) (s .pre .4) (part-at .part-at .ensures) refl
+    head-room (a .deck .now) (a .t6) (a .m) (part-at .part-at .result .now) (keyAt (a .t8) (at-loop .loop .j) .number) (replicate 64 0) (at-loop .loop .j) (omega arith) (s .pre .4) (part-at .part-at .ensures) refl
 
 mul-put-row : tie.Need-mul-put-row Inv-loop μ-loop
 mul-put-row c = search needs
@@ -75,7 +74,7 @@ part-put-row-end c =
     let at-loop = part-at .before .before .before in
     let s = at-loop .before .before .before in
     let a = s .args in
-    let room = head-room (a .deck .now) (a .t6) (a .m) (part-at .part-at .result .now) (internalAt (a .t8) (at-loop .loop .j)) (replicate 64 0) (at-loop .loop .j) (omega arith) (s .pre .4) (part-at .part-at .ensures) refl in
+    let room = head-room (a .deck .now) (a .t6) (a .m) (part-at .part-at .result .now) (keyAt (a .t8) (at-loop .loop .j) .number) (replicate 64 0) (at-loop .loop .j) (omega arith) (s .pre .4) (part-at .part-at .ensures) refl in
     omega (arith, room .fits, inked-place (put-head .put-head .ensures), put-head .put-head .ensures .kept)
 
 put-row-requires : tie.Need-put-row-requires Inv-loop μ-loop
@@ -85,8 +84,8 @@ put-row-requires c κs =
     let at-loop = part-at .before .before .before in
     let s = at-loop .before .before .before in
     let a = s .args in
-    let room = head-room (a .deck .now) (a .t6) (a .m) (part-at .part-at .result .now) (internalAt (a .t8) (at-loop .loop .j)) (replicate 64 0) (at-loop .loop .j) (omega arith) (s .pre .4) (part-at .part-at .ensures) refl in
-    let head-is = head-at (a .deck .now) (a .t6) (a .t8) (at-loop .loop .j) (part-at .part-at .result .now) _ (part-at .part-at .ensures) (head-bytes (part-at .part-at .result .now) (internalAt (a .t8) (at-loop .loop .j)) _ _ _ room (put-head .put-head .ensures)) in
+    let room = head-room (a .deck .now) (a .t6) (a .m) (part-at .part-at .result .now) (keyAt (a .t8) (at-loop .loop .j) .number) (replicate 64 0) (at-loop .loop .j) (omega arith) (s .pre .4) (part-at .part-at .ensures) refl in
+    let head-is = head-at (a .deck .now) (a .t6) (a .t8) (at-loop .loop .j) (part-at .part-at .result .now) _ (part-at .part-at .ensures) (head-bytes (part-at .part-at .result .now) (keyAt (a .t8) (at-loop .loop .j) .number) _ _ _ room (put-head .put-head .ensures)) in
     let written = row-at-held (a .deck .now) (a .sources) (a .n) (a .t6) (a .t8) (a .cells .now) (at-loop .loop .j) _ head-is in
     let l : at-loop .loop .j < a .m = omega arith in (
       s .pre .0,
@@ -109,8 +108,8 @@ loop-again c =
     let at-loop = part-at .before .before .before in
     let s = at-loop .before .before .before in
     let a = s .args in
-    let room = head-room (a .deck .now) (a .t6) (a .m) (part-at .part-at .result .now) (internalAt (a .t8) (at-loop .loop .j)) (replicate 64 0) (at-loop .loop .j) (omega arith) (s .pre .4) (part-at .part-at .ensures) refl in
-    let head-is = head-at (a .deck .now) (a .t6) (a .t8) (at-loop .loop .j) (part-at .part-at .result .now) _ (part-at .part-at .ensures) (head-bytes (part-at .part-at .result .now) (internalAt (a .t8) (at-loop .loop .j)) _ _ _ room (put-head .put-head .ensures)) in
+    let room = head-room (a .deck .now) (a .t6) (a .m) (part-at .part-at .result .now) (keyAt (a .t8) (at-loop .loop .j) .number) (replicate 64 0) (at-loop .loop .j) (omega arith) (s .pre .4) (part-at .part-at .ensures) refl in
+    let head-is = head-at (a .deck .now) (a .t6) (a .t8) (at-loop .loop .j) (part-at .part-at .result .now) _ (part-at .part-at .ensures) (head-bytes (part-at .part-at .result .now) (keyAt (a .t8) (at-loop .loop .j) .number) _ _ _ room (put-head .put-head .ensures)) in
     let written = row-at-held (a .deck .now) (a .sources) (a .n) (a .t6) (a .t8) (a .cells .now) (at-loop .loop .j) _ head-is in
     (search needs, search needs, search needs, inked-more _ _ (at-loop .loop .inv .3) (inked-as written (put-row .put-row .ensures)))
 

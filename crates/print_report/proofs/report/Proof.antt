@@ -7,13 +7,13 @@ use native.Mathlib.Nat.{mul-le-mul}
 use native.Mathlib.Omega.{arith}
 use lib.IntN.{pos}
 use lib.ListN.{length, replicate}
+use Rattle.rules.specs.Hour.{pairWidth}
 use Rattle.rules.specs.Refusals.{numberOf, placeOf}
 use Rattle.rules.specs.Report.{refusal}
 use Rattle.roundtrip.specs.DeckRoundTrip.{accepted-is-valid}
 use Rattle.roundtrip.specs.GivenHour.{accepted-given}
 use Rattle.reconstruct.specs.WholeAnswer.{count-few, placeable}
 use Rattle.print_lines.specs.Lines.{printed}
-use Rattle.print_report.specs.Widths.{pairWidth}
 use Rattle.print_report.specs.Printing.{scanned-refused, scanned-accepted, read-deck, refused-report, told-as}
 use Rattle.print_report.proofs.report.Statement.{statement}
 use Rattle.print_report.proofs.report.Tie as tie
@@ -43,8 +43,8 @@ returns c =
 enum-told : tie.Need-enum-told
 enum-told c = search needs
 
-numbers-requires : tie.Need-numbers-requires
-numbers-requires c κs =
+keys-requires : tie.Need-keys-requires
+keys-requires c κs =
     let enum-told = c .before .before in
     let scan = enum-told .before .before in
     let s = scan .before .before .before in
@@ -96,14 +96,14 @@ slice-aggregate-fill-cells c = search needs
 fill-cells-requires : tie.Need-fill-cells-requires
 fill-cells-requires c κs =
     let then1 = c .before in
-    let numbers = then1 .before .before .before .before in
-    let enum-told = numbers .before .before .before in
+    let keys = then1 .before .before .before .before in
+    let enum-told = keys .before .before .before in
     let scan = enum-told .before .before in
     let s = scan .before .before .before in
     let read = scanned-accepted (s .args .deck .now) (scan .scan .result) (scan .scan .ensures) (enum-told .enum-told .given .1) in
     let valid = accepted-is-valid (s .args .deck .now) (scan .scan .result .hour) read in
     let long : _≡_ {A = ℕ} (length (replicate 512 (pos 0))) 512 = refl in
-    (valid, numbers .numbers .ensures, omega (arith, long, then1 .if1 .taken))
+    (valid, keys .keys .ensures, omega (arith, long, then1 .if1 .taken))
 
 slice-aggregate-print-answer : tie.Need-slice-aggregate-print-answer
 slice-aggregate-print-answer c = search needs
@@ -111,11 +111,11 @@ slice-aggregate-print-answer c = search needs
 print-answer-requires : tie.Need-print-answer-requires
 print-answer-requires c κs =
     let fill-cells = c .before .before .before in
-    let numbers = fill-cells .before .before .before .before .before .before in
-    let enum-told = numbers .before .before .before in
+    let keys = fill-cells .before .before .before .before .before .before in
+    let enum-told = keys .before .before .before in
     let scan = enum-told .before .before in
     let s = scan .before .before .before in
-    (read-deck (s .args .deck .now) (scan .scan .result) _ (scan .scan .ensures) (enum-told .enum-told .given .1) (numbers .numbers .ensures), record { before = replicate 512 (pos 0); outcome = fill-cells .fill-cells .ensures .0; left = fill-cells .fill-cells .ensures .1 })
+    (read-deck (s .args .deck .now) (scan .scan .result) _ (scan .scan .ensures) (enum-told .enum-told .given .1) (keys .keys .ensures), record { before = replicate 512 (pos 0); outcome = fill-cells .fill-cells .ensures .0; left = fill-cells .fill-cells .ensures .1 })
 
 same-length-2 : tie.Need-same-length-2
 same-length-2 c = search needs
@@ -130,14 +130,14 @@ slice-aggregate-fill-cells-2 c = search needs
 
 fill-cells-requires-2 : tie.Need-fill-cells-requires-2
 fill-cells-requires-2 c κs =
-    let numbers = c .before .before .before .before .before in
-    let enum-told = numbers .before .before .before in
+    let keys = c .before .before .before .before .before in
+    let enum-told = keys .before .before .before in
     let scan = enum-told .before .before in
     let s = scan .before .before .before in
     let read = scanned-accepted (s .args .deck .now) (scan .scan .result) (scan .scan .ensures) (enum-told .enum-told .given .1) in
     let valid = accepted-is-valid (s .args .deck .now) (scan .scan .result .hour) read in
     let long : _≡_ {A = ℕ} (length (replicate 4160 (pos 0))) 4160 = refl in
-    (valid, numbers .numbers .ensures, omega (arith, long, count-few (scan .scan .result .hour) valid))
+    (valid, keys .keys .ensures, omega (arith, long, count-few (scan .scan .result .hour) valid))
 
 slice-aggregate-print-answer-2 : tie.Need-slice-aggregate-print-answer-2
 slice-aggregate-print-answer-2 c = search needs
@@ -145,11 +145,11 @@ slice-aggregate-print-answer-2 c = search needs
 print-answer-requires-2 : tie.Need-print-answer-requires-2
 print-answer-requires-2 c κs =
     let fill-cells2 = c .before .before .before in
-    let numbers = fill-cells2 .before .before .before .before .before .before in
-    let enum-told = numbers .before .before .before in
+    let keys = fill-cells2 .before .before .before .before .before .before in
+    let enum-told = keys .before .before .before in
     let scan = enum-told .before .before in
     let s = scan .before .before .before in
-    (read-deck (s .args .deck .now) (scan .scan .result) _ (scan .scan .ensures) (enum-told .enum-told .given .1) (numbers .numbers .ensures), record { before = replicate 4160 (pos 0); outcome = fill-cells2 .fill-cells2 .ensures .0; left = fill-cells2 .fill-cells2 .ensures .1 })
+    (read-deck (s .args .deck .now) (scan .scan .result) _ (scan .scan .ensures) (enum-told .enum-told .given .1) (keys .keys .ensures), record { before = replicate 4160 (pos 0); outcome = fill-cells2 .fill-cells2 .ensures .0; left = fill-cells2 .fill-cells2 .ensures .1 })
 
 same-length-3 : tie.Need-same-length-3
 same-length-3 c = search needs
@@ -169,7 +169,7 @@ report-spec =
     same-length
     returns
     enum-told
-    numbers-requires
+    keys-requires
     mul-count
     mul-count-2
     mul-count-3

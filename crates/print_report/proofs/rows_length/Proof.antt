@@ -6,18 +6,17 @@ use Prim.Native.Nat.{_-_, _*_, _≤_, _<_}
 use native.Mathlib.Nat.{mul-le-mul}
 use native.Mathlib.Omega.{arith}
 use lib.ListN.{length, replicate}
-use Rattle.rules.specs.Hour.{internalAt}
+use Rattle.rules.specs.Hour.{pairWidth, keyAt}
 use Rattle.write_fields.specs.Inked.{upTo, inked-place}
-use Rattle.print_report.specs.Widths.{pairWidth}
 use Rattle.print_report.specs.Rows.{rowAt, front-row-at, row-small, head-room, head-bytes, head-at, row-at-held, length-none, length-more, length-within}
 use Rattle.print_report.proofs.rows_length.Statement.{statement}
 use Rattle.print_report.proofs.rows_length.Tie as tie
 
 abbrev Inv-loop : tie.InvT-loop
-Inv-loop deck sources n m cells deliveries numbers size₀ j₀ size j = (n ≤ 32) × (m ≤ 32) × (j ≤ m) × (size ≡ length (upTo (rowAt deck sources n deliveries numbers cells) j []))
+Inv-loop deck sources n m cells deliveries keys size₀ j₀ size j = (n ≤ 32) × (m ≤ 32) × (j ≤ m) × (size ≡ length (upTo (rowAt deck sources n deliveries keys cells) j []))
 
 abbrev μ-loop : tie.MeasureT-loop
-μ-loop deck sources n m cells deliveries numbers size₀ j₀ size j = m - j
+μ-loop deck sources n m cells deliveries keys size₀ j₀ size j = m - j
 
 loop-holds : tie.Need-loop-holds Inv-loop μ-loop
 loop-holds c = (search needs, search needs, search needs, sym (length-none _))
@@ -49,7 +48,7 @@ put-head-requires c κs =
     let at-loop = part-at .before .before .before in
     let s = at-loop .before .before in
     let a = s .args in
-    head-room (a .deck .now) (a .t4) (a .m) (part-at .part-at .result .now) (internalAt (a .t6) (at-loop .loop .j)) (replicate 64 0) (at-loop .loop .j) (omega arith) (s .pre .4) (part-at .part-at .ensures) refl
+    head-room (a .deck .now) (a .t4) (a .m) (part-at .part-at .result .now) (keyAt (a .t6) (at-loop .loop .j) .number) (replicate 64 0) (at-loop .loop .j) (omega arith) (s .pre .4) (part-at .part-at .ensures) refl
 
 mul-row-length : tie.Need-mul-row-length Inv-loop μ-loop
 mul-row-length c = search needs
@@ -75,7 +74,7 @@ part-row-length-end c =
     let at-loop = part-at .before .before .before in
     let s = at-loop .before .before in
     let a = s .args in
-    let room = head-room (a .deck .now) (a .t4) (a .m) (part-at .part-at .result .now) (internalAt (a .t6) (at-loop .loop .j)) (replicate 64 0) (at-loop .loop .j) (omega arith) (s .pre .4) (part-at .part-at .ensures) refl in
+    let room = head-room (a .deck .now) (a .t4) (a .m) (part-at .part-at .result .now) (keyAt (a .t6) (at-loop .loop .j) .number) (replicate 64 0) (at-loop .loop .j) (omega arith) (s .pre .4) (part-at .part-at .ensures) refl in
     omega (arith, room .fits, inked-place (put-head .put-head .ensures), put-head .put-head .ensures .kept)
 
 row-length-requires : tie.Need-row-length-requires Inv-loop μ-loop
@@ -85,8 +84,8 @@ row-length-requires c κs =
     let at-loop = part-at .before .before .before in
     let s = at-loop .before .before in
     let a = s .args in
-    let room = head-room (a .deck .now) (a .t4) (a .m) (part-at .part-at .result .now) (internalAt (a .t6) (at-loop .loop .j)) (replicate 64 0) (at-loop .loop .j) (omega arith) (s .pre .4) (part-at .part-at .ensures) refl in
-    let head-is = head-at (a .deck .now) (a .t4) (a .t6) (at-loop .loop .j) (part-at .part-at .result .now) _ (part-at .part-at .ensures) (head-bytes (part-at .part-at .result .now) (internalAt (a .t6) (at-loop .loop .j)) _ _ _ room (put-head .put-head .ensures)) in
+    let room = head-room (a .deck .now) (a .t4) (a .m) (part-at .part-at .result .now) (keyAt (a .t6) (at-loop .loop .j) .number) (replicate 64 0) (at-loop .loop .j) (omega arith) (s .pre .4) (part-at .part-at .ensures) refl in
+    let head-is = head-at (a .deck .now) (a .t4) (a .t6) (at-loop .loop .j) (part-at .part-at .result .now) _ (part-at .part-at .ensures) (head-bytes (part-at .part-at .result .now) (keyAt (a .t6) (at-loop .loop .j) .number) _ _ _ room (put-head .put-head .ensures)) in
     let written = row-at-held (a .deck .now) (a .sources) (a .n) (a .t4) (a .t6) (a .cells .now) (at-loop .loop .j) _ head-is in
     let rows = rowAt (a .deck .now) (a .sources) (a .n) (a .t4) (a .t6) (a .cells .now) in
     let fronts = front-row-at (a .deck .now) (a .sources) (a .n) (a .t4) (a .t6) (a .cells .now) in
@@ -106,8 +105,8 @@ add-size c =
     let at-loop = part-at .before .before .before in
     let s = at-loop .before .before in
     let a = s .args in
-    let room = head-room (a .deck .now) (a .t4) (a .m) (part-at .part-at .result .now) (internalAt (a .t6) (at-loop .loop .j)) (replicate 64 0) (at-loop .loop .j) (omega arith) (s .pre .4) (part-at .part-at .ensures) refl in
-    let head-is = head-at (a .deck .now) (a .t4) (a .t6) (at-loop .loop .j) (part-at .part-at .result .now) _ (part-at .part-at .ensures) (head-bytes (part-at .part-at .result .now) (internalAt (a .t6) (at-loop .loop .j)) _ _ _ room (put-head .put-head .ensures)) in
+    let room = head-room (a .deck .now) (a .t4) (a .m) (part-at .part-at .result .now) (keyAt (a .t6) (at-loop .loop .j) .number) (replicate 64 0) (at-loop .loop .j) (omega arith) (s .pre .4) (part-at .part-at .ensures) refl in
+    let head-is = head-at (a .deck .now) (a .t4) (a .t6) (at-loop .loop .j) (part-at .part-at .result .now) _ (part-at .part-at .ensures) (head-bytes (part-at .part-at .result .now) (keyAt (a .t6) (at-loop .loop .j) .number) _ _ _ room (put-head .put-head .ensures)) in
     let written = row-at-held (a .deck .now) (a .sources) (a .n) (a .t4) (a .t6) (a .cells .now) (at-loop .loop .j) _ head-is in
     let rows = rowAt (a .deck .now) (a .sources) (a .n) (a .t4) (a .t6) (a .cells .now) in
     let fronts = front-row-at (a .deck .now) (a .sources) (a .n) (a .t4) (a .t6) (a .cells .now) in
@@ -128,8 +127,8 @@ loop-again c =
     let at-loop = part-at .before .before .before in
     let s = at-loop .before .before in
     let a = s .args in
-    let room = head-room (a .deck .now) (a .t4) (a .m) (part-at .part-at .result .now) (internalAt (a .t6) (at-loop .loop .j)) (replicate 64 0) (at-loop .loop .j) (omega arith) (s .pre .4) (part-at .part-at .ensures) refl in
-    let head-is = head-at (a .deck .now) (a .t4) (a .t6) (at-loop .loop .j) (part-at .part-at .result .now) _ (part-at .part-at .ensures) (head-bytes (part-at .part-at .result .now) (internalAt (a .t6) (at-loop .loop .j)) _ _ _ room (put-head .put-head .ensures)) in
+    let room = head-room (a .deck .now) (a .t4) (a .m) (part-at .part-at .result .now) (keyAt (a .t6) (at-loop .loop .j) .number) (replicate 64 0) (at-loop .loop .j) (omega arith) (s .pre .4) (part-at .part-at .ensures) refl in
+    let head-is = head-at (a .deck .now) (a .t4) (a .t6) (at-loop .loop .j) (part-at .part-at .result .now) _ (part-at .part-at .ensures) (head-bytes (part-at .part-at .result .now) (keyAt (a .t6) (at-loop .loop .j) .number) _ _ _ room (put-head .put-head .ensures)) in
     let written = row-at-held (a .deck .now) (a .sources) (a .n) (a .t4) (a .t6) (a .cells .now) (at-loop .loop .j) _ head-is in
     let rows = rowAt (a .deck .now) (a .sources) (a .n) (a .t4) (a .t6) (a .cells .now) in
     let fronts = front-row-at (a .deck .now) (a .sources) (a .n) (a .t4) (a .t6) (a .cells .now) in
