@@ -51,7 +51,7 @@ pub record Run (h : Hour) (cells : List ℤ) : Type 0 where
 
 module _ (h : Hour) (v : valid h ≡ true) (out : List ℤ) (l : length out ≡ 4160) where
   whole : reconstruction h (length out) ≡ answer h
-  unfolding calls.reconstruction
+  unfolding calls.reconstruction calls.cellsFor
   whole = rw (v, l, le-ltb 4160 (cellCount h) (count-few h v))
 
   pub run-refused : (r : Refusal) → NotWritten r ≡ writtenOf (reconstruction h (length out)) → reconstructed h ≡ refused r
