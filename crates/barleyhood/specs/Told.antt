@@ -1,13 +1,17 @@
 -- What the answers of the calls beneath tell of the deck, and the code for each.
+use mathlib.Core.Bool.{true}
 use mathlib.Core.Path.{_≡_, refl, ap, sym, _∙_}
 use mathlib.Core.List.{List}
 use Prim.Native.Nat.{ℕ}
 use lib.IntN.{ℤ}
 use Rattle.laws.specs.Answers.{verdict-accepted, verdict-refused}
+use Rattle.roundtrip.specs.DeckRoundTrip.{accepted-is-valid}
 use Rattle.rules.specs.Answers.{verdictOf, writtenOf}
-use Rattle.rules.specs.Calls.{reconstruction, leaves}
+use Rattle.rules.specs.Calls as calls
+use Rattle.rules.specs.Calls.{cellsFor, reconstruction, leaves}
 use Rattle.rules.specs.Reading.{reading}
 use Rattle.rules.specs.Refusals.{Outcome, accepted, refused, andThen}
+use Rattle.rules.specs.Writing.{valid}
 use Rattle.rules.specs.declared.Hour.{Hour}
 use Rattle.rules.specs.declared.Refusal.{Refusal}
 use Rattle.rules.specs.declared.Verdict.{Verdict}
@@ -42,13 +46,22 @@ module _ (s : List ℕ) (x : ReadHour) (e : x ≡ readAnswer (reading s)) where
     pub deliveries-told : x .hour .ndeliveries ≡ deliveriesCode (reading s)
     deliveries-told = ap deliveriesCode (read-accepted (reading s) x e p)
 
-    -- the code and the cells that a reconstruction of the hour leaves
-    pub cells-told : (n : ℕ) (a : Written) (code : ℕ) (out left : List ℤ) → a ≡ writtenOf (reconstruction (x .hour) n) → code ≡ answerCode a
-        → left ≡ leaves (reconstruction (x .hour) n) out → (code ≡ writtenCode (cellsOfDeck s n)) × (left ≡ leaves (cellsOfDeck s n) out)
+    -- the hour that a deck gives is valid
+    pub hour-valid : valid (x .hour) ≡ true
+    hour-valid = accepted-is-valid s (x .hour) (sym (read-accepted (reading s) x e p))
+
+    -- so that 15 is past
+    past-15 : (n : ℕ) → cellsFor (x .hour) n ≡ reconstruction (x .hour) n
+    unfolding calls.reconstruction
+    past-15 n = rw hour-valid
+
+    -- the code and the cells that the hour's cells leave
+    pub cells-told : (n : ℕ) (a : Written) (code : ℕ) (out left : List ℤ) → a ≡ writtenOf (cellsFor (x .hour) n) → code ≡ answerCode a
+        → left ≡ leaves (cellsFor (x .hour) n) out → (code ≡ writtenCode (cellsOfDeck s n)) × (left ≡ leaves (cellsOfDeck s n) out)
     unfolding linked.cellsOfDeck
     cells-told n a code out left ae ce le =
-        let k : reconstruction (x .hour) n ≡ cellsOfDeck s n = ap (λ (o : Outcome Hour). andThen o λ h. reconstruction h n) (read-accepted (reading s) x e p) in
-        (ce ∙ ap answerCode ae ∙ answer-code (reconstruction (x .hour) n) ∙ ap writtenCode k, le ∙ ap (λ (o : Outcome (List ℤ)). leaves o out) k)
+        let k : cellsFor (x .hour) n ≡ cellsOfDeck s n = past-15 n ∙ ap (λ (o : Outcome Hour). andThen o λ h. reconstruction h n) (read-accepted (reading s) x e p) in
+        (ce ∙ ap answerCode ae ∙ answer-code (cellsFor (x .hour) n) ∙ ap writtenCode k, le ∙ ap (λ (o : Outcome (List ℤ)). leaves o out) k)
 
   module _ (r : Refusal) (p : x .verdict ≡ Refused r) where
     pub sources-refused : codeOf r ≡ sourcesCode (reading s)

@@ -69,7 +69,7 @@ pub extern "C" fn barleyhood_price(s: &[u8], out: &mut [i64]) -> u64
     let v = x.verdict;
     let h = x.hour;
     match v {
-        Verdict::Accepted => written_code(reconstruct::price(h, out)),
+        Verdict::Accepted => written_code(reconstruct::cells_of(h, true, out)),
         Verdict::Refused(r) => refusals::code_of(r),
     }
 }
@@ -84,7 +84,7 @@ pub extern "C" fn barleyhood_plain(s: &[u8], out: &mut [i64]) -> u64
     let v = x.verdict;
     let h = x.hour;
     match v {
-        Verdict::Accepted => written_code(reconstruct::plain(h, out)),
+        Verdict::Accepted => written_code(reconstruct::cells_of(h, false, out)),
         Verdict::Refused(r) => refusals::code_of(r),
     }
 }
