@@ -98,7 +98,7 @@ run-answered deck x ks cells d r =
       run = r .run;
       after = r .after;
       is = r .is;
-      numbered = λ j l. rw (d .numbered) (placings-same (x .hour) j);
+      numbered = λ j l. ap (λ (k : Key). k .number) (rw (d .numbered) (placings-same (x .hour) j));
     }
 
 -- The report of a refusal.

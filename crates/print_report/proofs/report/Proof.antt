@@ -12,7 +12,8 @@ use Rattle.rules.specs.Refusals.{numberOf, placeOf}
 use Rattle.rules.specs.Report.{refusal}
 use Rattle.roundtrip.specs.DeckRoundTrip.{accepted-is-valid}
 use Rattle.roundtrip.specs.GivenHour.{accepted-given}
-use Rattle.reconstruct.specs.WholeAnswer.{count-few, placeable}
+use Rattle.reconstruct.specs.WholeAnswer.{placeable}
+use Rattle.balance.specs.CellsAreFew.{count-few}
 use Rattle.print_lines.specs.Lines.{printed}
 use Rattle.print_report.specs.Printing.{scanned-refused, scanned-accepted, read-deck, refused-report, told-as}
 use Rattle.print_report.proofs.report.Statement.{statement}
