@@ -2,7 +2,7 @@
 use mathlib.Core.Bool.{Bool, true, false}
 use mathlib.Core.List.{List, map}
 use mathlib.Core.Path.{_≡_, refl, sym, ap, _∙_}
-use Prim.Native.Nat.{ℕ, suc, _+_, _-_, _*_, _≤_, _<_}
+use Prim.Native.Nat.{ℕ, suc, _+_, _-_, _≤_, _<_}
 use native.Mathlib.Omega.{arith}
 use borrow.Author.Tests.{ltb-true, lt-ltb}
 use lib.ListN.{length, set, replicate}
@@ -34,7 +34,7 @@ use Rattle.rules.specs.declared.Running.{Running}
 use Rattle.rules.specs.declared.Verdict.the-variants.{Accepted, Refused}
 use Rattle.sequence.specs.HighestNumber.{Highest}
 use Rattle.sequence.specs.declared.NextGroup.{NextGroup}
-use Rattle.ladder.specs.Ready.{AllReady, remainder-ready}
+use Rattle.ladder.specs.Ready.{AllReady}
 
 -- The next group, and a bound on what is left: all numbers from `past` up are done.
 abbrev pub past : NextGroup → ℕ
