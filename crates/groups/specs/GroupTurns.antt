@@ -38,7 +38,7 @@ use Rattle.rules.specs.declared.Verdict.the-variants.{Accepted, Refused}
 use Rattle.sequence.specs.NextKey.{Next, Coming, coming-none, First, coming-next, coming-all}
 use Rattle.sequence.specs.SameGroups.{counted-same, same-turns}
 use Rattle.sequence.specs.declared.NextGroup.{NextGroup}
-use Rattle.ladder.specs.Ready.{AllReady, remainder-ready}
+use Rattle.ladder.specs.Ready.{AllReady}
 
 -- A bound on what is left: how many numbers are not above the next group's.
 abbrev pub past : NextGroup → ℕ

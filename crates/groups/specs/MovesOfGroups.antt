@@ -15,7 +15,7 @@ use Rattle.laws.specs.Keys.{key-same, key-itself, among}
 use Rattle.members.specs.Leads.{Lead, LeadsGroup}
 use Rattle.merit.specs.LevelNeverBelowB.{stateAt}
 use Rattle.moves.specs.LaterStates.{Later, later-same, later-then, took-later, moved-later}
-use Rattle.moves.specs.MovesKept.{AllLow, Entry, Entries, low-none}
+use Rattle.moves.specs.MovesKept.{AllLow, Entries, low-none}
 use Rattle.moves.specs.ToldIsTaken.{SourceRuns, taken}
 use Rattle.rules.specs.Group.{Item}
 use Rattle.rules.specs.Hour.{keyAt, sameKey, member, scheduled, Cells, share, shared}

@@ -9,7 +9,7 @@ use lib.Seq.{getD-set-same, getD-set-other}
 use Rattle.laws.specs.Sums.{below-suc}
 use Rattle.ladder.specs.Ready.{Ready}
 use Rattle.merit.specs.LevelNeverBelowB.{stateAt}
-use Rattle.moves.specs.MovesKept.{Stands, stands, AllLow, Entry, Entries, keptAt, Elsewhere, low-kept, elsewhere-none, elsewhere-set, entries-none, entries-kept}
+use Rattle.moves.specs.MovesKept.{Stands, stands, AllLow, Entries, keptAt, Elsewhere, low-kept, elsewhere-none, elsewhere-set, entries-none, entries-kept}
 use Rattle.rules.specs.Group.{noRunning}
 use Rattle.rules.specs.declared.Running.{Running}
 

@@ -1,6 +1,6 @@
 -- What stays of a source from group to group: its plant, and b once it is set.
 use mathlib.Core.Bool.{true}
-use mathlib.Core.Path.{_≡_, refl, ap, _∙_}
+use mathlib.Core.Path.{_≡_, refl, _∙_}
 use Prim.Native.Nat.{ℕ}
 use Rattle.merit.specs.LevelNeverBelowB.{Took, Moved}
 use Rattle.rules.specs.Group.{changed}

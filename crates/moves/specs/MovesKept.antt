@@ -1,5 +1,4 @@
 -- Where a source stood before a group and after it, in one number; a group has a row of 32 of them.
-use mathlib.Core.Bool.{true, false}
 use mathlib.Core.List.{List}
 use mathlib.Core.Logic.{_≢_, _⊎_, inl, inr}
 use mathlib.Core.Path.{_≡_, refl, sym, ap, _∙_}
@@ -16,27 +15,35 @@ use Rattle.rules.specs.Group.{noRunning, level}
 use Rattle.rules.specs.Words.{if_then_else_}
 use Rattle.rules.specs.declared.Running.{Running}
 
+-- D and level are below this, each
+abbrev step : ℕ
+step = 4096
+
+-- and a standing below this, step times step
+abbrev standings : ℕ
+standings = 16_777_216
+
 -- where a source stands: its D and its level
 abbrev pub standing : Running → ℕ
-standing s = s .d + level s * 4096
+standing s = s .d + level s * step
 
 -- from where to where
 abbrev pub moveOf : Running → Running → ℕ
-moveOf s u = standing s + standing u * 16_777_216
+moveOf s u = standing s + standing u * standings
 
 -- D and level of a standing
 abbrev pub dOf : ℕ → ℕ
-dOf y = y % 4096
+dOf y = y % step
 
 abbrev pub levelOf : ℕ → ℕ
-levelOf y = y / 4096
+levelOf y = y / step
 
 -- the two standings of an entry
 abbrev pub before : ℕ → ℕ
-before x = x % 16_777_216
+before x = x % standings
 
 abbrev pub after : ℕ → ℕ
-after x = x / 16_777_216
+after x = x / standings
 
 -- where a source stood when its group began: as entry x has it, or, where it has none, as it stands at w
 unfoldable pub firstOf : ℕ → Running → ℕ
@@ -44,7 +51,7 @@ firstOf x w = if eqb x 0 then standing w else before x
 
 -- entry x, with a move from w to y after it
 abbrev pub movedOn : ℕ → Running → Running → ℕ
-movedOn x w y = firstOf x w + standing y * 16_777_216
+movedOn x w y = firstOf x w + standing y * standings
 
 -- a state whose numbers fit an entry
 pub record Stands (s : Running) : Type 0 where
@@ -87,16 +94,16 @@ d-of s g = omega (arith, g .d)
 pub level-of : (s : Running) → Stands s → levelOf (standing s) ≡ level s
 level-of s g = omega (arith, g .d)
 
-standing-small : (s : Running) → Stands s → standing s < 16_777_216
+standing-small : (s : Running) → Stands s → standing s < standings
 standing-small s g = omega (arith, g .d, g .level)
 
 low-standing : (s : Running) → Stands s → LowStanding (standing s)
 low-standing s g = (omega (arith, d-of s g, g .d), omega (arith, level-of s g, g .level))
 
-pub before-of : (a b : ℕ) → a < 16_777_216 → before (a + b * 16_777_216) ≡ a
+pub before-of : (a b : ℕ) → a < standings → before (a + b * standings) ≡ a
 before-of a b l = omega arith
 
-pub after-of : (a b : ℕ) → a < 16_777_216 → after (a + b * 16_777_216) ≡ b
+pub after-of : (a b : ℕ) → a < standings → after (a + b * standings) ≡ b
 after-of a b l = omega arith
 
 pub before-move : (s u : Running) → Stands s → before (moveOf s u) ≡ standing s
@@ -114,7 +121,7 @@ module _ (x : ℕ) (w : Running) where
   unfolding firstOf
   first-some z = rw (ne-eqb x 0 z)
 
-  pub first-small : Stands w → firstOf x w < 16_777_216
+  pub first-small : Stands w → firstOf x w < standings
   first-small g = elim (ℕ-discrete x 0) [
     | yes z ↦ rw (first-none z) (standing-small w g)
     | no z ↦ rw (first-some z) (omega arith)
@@ -133,7 +140,7 @@ module _ (x : ℕ) (w : Running) where
   ]
 
 pub entry-moved : (s w y : Running) (x : ℕ) → Stands y → Entry s w x → Entry s y (movedOn x w y)
-entry-moved s w y x m g = record { began = g .began; stands = m; is = inr (ap (λ (z : ℕ). z + standing y * 16_777_216) (first-began x w s g)) }
+entry-moved s w y x m g = record { began = g .began; stands = m; is = inr (ap (λ (z : ℕ). z + standing y * standings) (first-began x w s g)) }
 
 pub entry-none : (s : Running) (x : ℕ) → Stands s → x ≡ 0 → Entry s s x
 entry-none s x g e = record { began = g; stands = g; is = inl (e, refl) }
@@ -141,7 +148,7 @@ entry-none s x g e = record { began = g; stands = g; is = inl (e, refl) }
 pub low-none : (x : ℕ) → x ≡ 0 → Low x
 low-none x e = rw e (record { first = (omega arith, omega arith); last = (omega arith, omega arith) })
 
-low-joined : (a b : ℕ) → a < 16_777_216 → LowStanding a → LowStanding b → Low (a + b * 16_777_216)
+low-joined : (a b : ℕ) → a < standings → LowStanding a → LowStanding b → Low (a + b * standings)
 low-joined a b l g h = record { first = rw (before-of a b l) g; last = rw (after-of a b l) h }
 
 low-moved : (x : ℕ) (w y : Running) → Low x → Stands w → Stands y → Low (movedOn x w y)

@@ -3,17 +3,16 @@ use mathlib.Core.Bool.{Bool, true, false}
 use mathlib.Core.List.{List}
 use mathlib.Core.Logic.{inl, inr}
 use mathlib.Core.Path.{_≡_, refl, sym, ap, _∙_}
-use Prim.Native.Nat.{ℕ, _+_, _-_, _*_, _/_, _%_, _≤_, _<_}
+use Prim.Native.Nat.{ℕ, _+_, _-_, _≤_}
 use native.Mathlib.Omega.{arith}
 use borrow.Author.Tests.{le-ltb}
-use lib.Dec.{ltb}
 use lib.ListN.{getD}
 use Rattle.merit.specs.ChangedFromB.{changed-over, changed-zero}
 use Rattle.merit.specs.LevelNeverBelowB.{Sound, Took, Moved, stateAt, moved-sound}
 use Rattle.merit.specs.NumbersStaySmall.{Small, cost-small, changed-small}
 use Rattle.moves.specs.LaterStates.{Later, later-then, took-later, moved-later, later-changed}
 use Rattle.moves.specs.MovesKept.{standing, dOf, levelOf, before, after, Low, Entry, d-of, level-of, before-move, after-move}
-use Rattle.rules.specs.Group.{level, changed, charged, withOpen, Item, directMwh, incrementalMwh, directCost, incrementalCost, Amount, less, amount}
+use Rattle.rules.specs.Group.{level, changed, charged, Item, directMwh, incrementalMwh, directCost, incrementalCost, Amount, less, amount}
 use Rattle.rules.specs.Hour.{items}
 use Rattle.rules.specs.Units.{cost}
 use Rattle.rules.specs.declared.Plant.{Plant}

@@ -14,7 +14,7 @@ use Rattle.laws.specs.Sums.{below-suc}
 use Rattle.members.specs.Live.{rowWidth}
 use Rattle.merit.specs.LevelNeverBelowB.{stateAt}
 use Rattle.merit.specs.NumbersStaySmall.{level-small, changed-small}
-use Rattle.rules.specs.Group.{openCost, OpenItem, openMwh, openGrains, openAmount}
+use Rattle.rules.specs.Group.{OpenItem, openMwh, openGrains, openAmount}
 use Rattle.rules.specs.Hour.{Cells, Progress, pairCells, openItems, openCells, cellsOf, pairWidth, openWidth, cellCount}
 use Rattle.rules.specs.declared.Hour.{Hour}
 use Rattle.rules.specs.declared.Running.{Running}

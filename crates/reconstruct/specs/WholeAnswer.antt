@@ -7,7 +7,7 @@ use native.Mathlib.Nat.{mul-le-mul}
 use native.Mathlib.Omega.{arith}
 use borrow.Author.Tests.{lt-ltb, le-ltb}
 use lib.IntN.{ℤ, pos}
-use lib.ListN.{length, getD, take, drop, length-drop, take-append-drop}
+use lib.ListN.{length, take, drop, length-drop, take-append-drop}
 use lib.Seq.{getD-drop, ext-getD}
 use Rattle.balance.specs.CellsAreFew.{cells-few, count-few}
 use Rattle.balance.specs.AnswerCells.{cellAt, cells-length}

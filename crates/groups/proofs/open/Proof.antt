@@ -1,4 +1,4 @@
--- `reconstruct::open` meets its contract: v is the generation.
+-- `groups::open` meets its contract: v is the generation.
 use borrow.Author.Needs.{needs}
 use Rattle.groups.proofs.open.Statement.{statement}
 use Rattle.groups.proofs.open.Tie as tie
