@@ -29,7 +29,11 @@ same-key-requires : tie.Need-same-key-requires Inv-loop μ-loop
 same-key-requires c κs = search needs
 
 returns : tie.Need-returns Inv-loop μ-loop
-returns c = let at-loop = c .before .before .before .before in record { within = omega arith; key = sym (c .before .same-key .ensures) ∙ c .if1 .taken; first = at-loop .loop .inv .1 }
+returns c =
+    let after-same-key = c .before in
+    let in-loop = after-same-key .before .before in
+    let at-loop = in-loop .before in
+    record { within = omega arith; key = sym (after-same-key .same-key .ensures) ∙ c .if1 .taken; first = at-loop .loop .inv .1 }
 
 add-j : tie.Need-add-j Inv-loop μ-loop
 add-j c = omega arith
@@ -39,17 +43,21 @@ loop-less c = omega arith
 
 loop-again : tie.Need-loop-again Inv-loop μ-loop
 loop-again c =
-    let at-loop = c .before .before .before .before in
+    let after-same-key = c .before in
+    let in-loop = after-same-key .before .before in
+    let at-loop = in-loop .before in
     let a = at-loop .before .args in
     let l = at-loop .loop in (
       omega arith,
-      λ k m. below-suc (λ k. member (a .t1) (a .key) k ≡ false) (l .j) (l .inv .1) (sym (c .before .same-key .ensures) ∙ c .if1 .left) k (omega arith),
+      λ k m. below-suc (λ k. member (a .t1) (a .key) k ≡ false) (l .j) (l .inv .1) (sym (after-same-key .same-key .ensures) ∙ c .if1 .left) k (omega arith),
     )
 
 returns-2 : tie.Need-returns-2 Inv-loop μ-loop
 returns-2 c =
-    let a = c .before .before .args in
-    absurd (omega (arith, c .before .before .pre .1, lead-none (a .t1) (a .n) (a .key) (λ k l. c .before .loop .inv .1 k (omega arith))))
+    let at-loop = c .before in
+    let start = at-loop .before in
+    let a = start .args in
+    absurd (omega (arith, start .pre .1, lead-none (a .t1) (a .n) (a .key) (λ k l. at-loop .loop .inv .1 k (omega arith))))
 
 pub lead-of-spec : {M : Type 1} → statement M
 lead-of-spec =

@@ -5,7 +5,9 @@ use Rattle.members.proofs.part.Statement.{statement}
 use Rattle.members.proofs.part.Tie as tie
 
 returns : tie.Need-returns
-returns c = let a = c .before .args in upTo-all (a .total) (a .size) (a .count) (a .mwh) (c .if1 .taken) (c .before .pre .2)
+returns c =
+    let start = c .before in
+    let a = start .args in upTo-all (a .total) (a .size) (a .count) (a .mwh) (c .if1 .taken) (start .pre .2)
 
 part-up-to-requires : tie.Need-part-up-to-requires
 part-up-to-requires c κs = search needs

@@ -24,10 +24,14 @@ add-result : tie.Need-add-result
 add-result c = search needs
 
 returns : tie.Need-returns
-returns c = λ a l e f. listed-more a _ _ _ _ _ (c .before .pre .0) l _ _ e f
+returns c =
+    let start = c .before in
+    λ a l e f. listed-more a _ _ _ _ _ (start .pre .0) l _ _ e f
 
 returns-2 : tie.Need-returns-2
-returns-2 c = λ a l e f. listed-skip a _ _ _ _ _ (c .before .pre .0) l _ _ (sym e ∙ c .if1 .left)
+returns-2 c =
+    let start = c .before in
+    λ a l e f. listed-skip a _ _ _ _ _ (start .pre .0) l _ _ (sym e ∙ c .if1 .left)
 
 pub push-spec : {M : Type 1} → statement M
 push-spec =

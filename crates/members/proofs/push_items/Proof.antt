@@ -38,7 +38,8 @@ add-push c = search needs
 
 push-requires : tie.Need-push-requires Inv-loop μ-loop
 push-requires c κs =
-    let at-loop = c .before .before .before .before .before .before in
+    let in-loop = c .before .before .before .before .before in
+    let at-loop = in-loop .before in
     let p = at-loop .before .pre in
     let l = at-loop .loop .inv .1 (p .a) (p .items) (p .listed) in
     (omega (arith, p .room), l .few, l .long, l .sizes-long, l .minus-long)
@@ -51,7 +52,8 @@ loop-less c = search needs
 
 loop-again : tie.Need-loop-again Inv-loop μ-loop
 loop-again c =
-    let at-loop = c .before .before .before .before .before .before .before in
+    let in-loop = c .before .before .before .before .before .before in
+    let at-loop = in-loop .before in
     let q = at-loop .before .args .q in
     let item = at-loop .loop .item in
     let e : q + (item + 1) ≡ q + item + 1 = omega arith in

@@ -11,12 +11,14 @@ cast-n c = search needs
 
 returns : tie.Need-returns
 returns c =
-    let s : length (c .before .before .args .l .bytes) ≡ 16 = search needs in
+    let start = c .before .before in
+    let s : length (start .args .l .bytes) ≡ 16 = search needs in
     (simp length-take (omega arith), omega arith)
 
 returns-2 : tie.Need-returns-2
 returns-2 c =
-    let s : length (c .before .before .args .l .bytes) ≡ 16 = search needs in
+    let start = c .before .before in
+    let s : length (start .args .l .bytes) ≡ 16 = search needs in
     (simp length-take (omega arith), omega arith)
 
 pub characters-spec : {M : Type 1} → statement M

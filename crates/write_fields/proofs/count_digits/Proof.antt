@@ -22,12 +22,14 @@ loop-holds c =
 
 mul-power : tie.Need-mul-power Inv-loop μ-loop
 mul-power c =
-    let s = c .before .before in
+    let at-loop = c .before in
+    let s = at-loop .before in
     record { fits = omega (arith, s .fits .v .fits) }
 
 add-n : tie.Need-add-n Inv-loop μ-loop
 add-n c =
-    let s = c .before .before in
+    let at-loop = c .before in
+    let s = at-loop .before in
     record { fits = omega (arith, digits-few (s .args .v)) }
 
 loop-less : tie.Need-loop-less Inv-loop μ-loop
@@ -44,7 +46,8 @@ loop-again c =
 
 add-result : tie.Need-add-result Inv-loop μ-loop
 add-result c =
-    let s = c .before .before in
+    let at-loop = c .before in
+    let s = at-loop .before in
     record { fits = omega (arith, digits-few (s .args .v)) }
 
 returns : tie.Need-returns Inv-loop μ-loop

@@ -10,13 +10,21 @@ enum-told : tie.Need-enum-told
 enum-told c = search needs
 
 put-byte-requires : tie.Need-put-byte-requires
-put-byte-requires c κs = room-as (basis-same (c .before .enum-told .given .1) []) (c .before .before .before .before .pre)
+put-byte-requires c κs =
+    let after-enum-told = c .before in
+    let at-match-keys1 = after-enum-told .before in
+    let start = at-match-keys1 .before .before in
+    room-as (basis-same (after-enum-told .enum-told .given .1) []) (start .pre)
 
 enum-told-2 : tie.Need-enum-told-2
 enum-told-2 c = search needs
 
 put-byte-requires-2 : tie.Need-put-byte-requires-2
-put-byte-requires-2 c κs = room-as (basis-same (c .before .enum-told2 .given .1) []) (c .before .before .before .before .pre)
+put-byte-requires-2 c κs =
+    let after-enum-told2 = c .before in
+    let at-match-keys2 = after-enum-told2 .before in
+    let start = at-match-keys2 .before .before in
+    room-as (basis-same (after-enum-told2 .enum-told2 .given .1) []) (start .pre)
 
 enum-known-x : tie.Need-enum-known-x
 enum-known-x c = search needs
@@ -25,25 +33,38 @@ cast-put-number : tie.Need-cast-put-number
 cast-put-number c = search needs
 
 put-number-requires : tie.Need-put-number-requires
-put-number-requires c κs = room-as (basis-same (c .before .before .x .given .1) []) (c .before .before .before .before .before .pre)
+put-number-requires c κs =
+    let after-x = c .before .before in
+    let at-match-keys3 = after-x .before in
+    let start = at-match-keys3 .before .before in
+    room-as (basis-same (after-x .x .given .1) []) (start .pre)
 
 same-length : tie.Need-same-length
 same-length c = search needs
 
 returns : tie.Need-returns
-returns c = inked-as (basis-same (c .before .before .before .before .enum-told .given .1)) (c .before .before .put-byte .ensures)
+returns c =
+    let after-put-byte = c .before .before in
+    let after-enum-told = after-put-byte .before .before in
+    inked-as (basis-same (after-enum-told .enum-told .given .1)) (after-put-byte .put-byte .ensures)
 
 same-length-2 : tie.Need-same-length-2
 same-length-2 c = search needs
 
 returns-2 : tie.Need-returns-2
-returns-2 c = inked-as (basis-same (c .before .before .before .before .enum-told2 .given .1)) (c .before .before .put-byte2 .ensures)
+returns-2 c =
+    let after-put-byte2 = c .before .before in
+    let after-enum-told2 = after-put-byte2 .before .before in
+    inked-as (basis-same (after-enum-told2 .enum-told2 .given .1)) (after-put-byte2 .put-byte2 .ensures)
 
 same-length-3 : tie.Need-same-length-3
 same-length-3 c = search needs
 
 returns-3 : tie.Need-returns-3
-returns-3 c = inked-as (basis-same (c .before .before .before .before .before .x .given .1)) (c .before .before .put-number .ensures)
+returns-3 c =
+    let after-put-number = c .before .before in
+    let after-x = after-put-number .before .before .before in
+    inked-as (basis-same (after-x .x .given .1)) (after-put-number .put-number .ensures)
 
 pub put-basis-spec : {M : Type 1} → statement M
 put-basis-spec =

@@ -23,7 +23,8 @@ sub-loop c = search needs
 
 copy-eight-requires : tie.Need-copy-eight-requires Inv-loop μ-loop
 copy-eight-requires c κs =
-    let at-loop = c .before .before in
+    let in-loop = c .before in
+    let at-loop = in-loop .before in
     let s = at-loop .before .before .before in
     (omega arith, room-first (front-eight (s .args .src .now) (at-loop .loop .i)) (room-as (from-eight (s .args .src .now) (at-loop .loop .i) (omega arith) []) (copied-room (at-loop .loop .inv .1) (s .pre))))
 

@@ -29,10 +29,13 @@ element-copy-out-put-character c = search needs
 
 put-character-requires : tie.Need-put-character-requires Inv-loop μ-loop
 put-character-requires c κs =
-    let a = c .before .before .before .before .before .before in
+    let in-loop = c .before .before in
+    let at-loop = in-loop .before in
+    let after-characters = at-loop .before in
+    let a = after-characters .before .before in
     let l = a .args .t3 in
-    let n : c .before .before .before .before .characters .result ≡ length (chars l) = c .before .before .before .before .characters .ensures .0 in
-    room-next (characterAt (l .bytes)) (λ i. front-list (escape (getD (l .bytes) i 0 ∷ []))) (c .before .before .before .loop .i) (length (chars l)) (omega arith) (c .before .before .before .loop .inv .1) (room-as (escape-all (l .len) (l .bytes) []) (a .pre))
+    let n : after-characters .characters .result ≡ length (chars l) = after-characters .characters .ensures .0 in
+    room-next (characterAt (l .bytes)) (λ i. front-list (escape (getD (l .bytes) i 0 ∷ []))) (at-loop .loop .i) (length (chars l)) (omega arith) (at-loop .loop .inv .1) (room-as (escape-all (l .len) (l .bytes) []) (a .pre))
 
 add-i : tie.Need-add-i Inv-loop μ-loop
 add-i c = search needs
@@ -41,16 +44,25 @@ loop-less : tie.Need-loop-less Inv-loop μ-loop
 loop-less c = search needs
 
 loop-again : tie.Need-loop-again Inv-loop μ-loop
-loop-again c = (search needs, inked-more _ _ (c .before .before .before .before .before .before .loop .inv .1) (c .before .before .put-character .ensures))
+loop-again c =
+    let after-put-character = c .before .before in
+    let in-loop = after-put-character .before .before .before in
+    let at-loop = in-loop .before in
+    (search needs, inked-more _ _ (at-loop .loop .inv .1) (after-put-character .put-character .ensures))
 
 same-length : tie.Need-same-length Inv-loop μ-loop
-same-length c = c .before .loop .inv .1 .kept
+same-length c =
+    let at-loop = c .before in
+    at-loop .loop .inv .1 .kept
 
 returns : tie.Need-returns Inv-loop μ-loop
 returns c =
-    let l = c .before .before .before .before .args .t3 in
-    let n : c .before .before .characters .result ≡ length (chars l) = c .before .before .characters .ensures .0 in
-    inked-all (characterAt (l .bytes)) (c .before .loop .i) (length (chars l)) (escape-all (l .len) (l .bytes)) (omega arith) (c .before .loop .inv .1)
+    let at-loop = c .before in
+    let after-characters = at-loop .before in
+    let start = after-characters .before .before in
+    let l = start .args .t3 in
+    let n : after-characters .characters .result ≡ length (chars l) = after-characters .characters .ensures .0 in
+    inked-all (characterAt (l .bytes)) (at-loop .loop .i) (length (chars l)) (escape-all (l .len) (l .bytes)) (omega arith) (at-loop .loop .inv .1)
 
 pub put-escaped-spec : {M : Type 1} → statement M
 put-escaped-spec =

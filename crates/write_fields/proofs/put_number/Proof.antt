@@ -35,7 +35,9 @@ same-length-2 : tie.Need-same-length-2
 same-length-2 c = search needs
 
 returns-2 : tie.Need-returns-2
-returns-2 c = c .before .before .put-many .ensures
+returns-2 c =
+    let after-put-many = c .before .before in
+    after-put-many .put-many .ensures
 
 pub put-number-spec : {M : Type 1} → statement M
 put-number-spec =

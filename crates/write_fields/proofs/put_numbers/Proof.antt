@@ -26,8 +26,11 @@ shared-slice-read-put-spaced c = search needs
 
 put-spaced-requires : tie.Need-put-spaced-requires Inv-loop μ-loop
 put-spaced-requires c κs =
-    let vs = c .before .before .before .before .before .before .args .vs .now in
-    room-next (spacedAt vs) (λ i. front-spaced (getD vs i 0)) (c .before .before .before .loop .i) (length vs) (omega arith) (c .before .before .before .loop .inv .1) (c .before .before .before .before .before .before .pre)
+    let in-loop = c .before .before in
+    let at-loop = in-loop .before in
+    let start = at-loop .before .before .before in
+    let vs = start .args .vs .now in
+    room-next (spacedAt vs) (λ i. front-spaced (getD vs i 0)) (at-loop .loop .i) (length vs) (omega arith) (at-loop .loop .inv .1) (start .pre)
 
 add-i : tie.Need-add-i Inv-loop μ-loop
 add-i c = search needs
@@ -36,15 +39,23 @@ loop-less : tie.Need-loop-less Inv-loop μ-loop
 loop-less c = search needs
 
 loop-again : tie.Need-loop-again Inv-loop μ-loop
-loop-again c = (search needs, inked-more _ _ (c .before .before .before .before .before .before .loop .inv .1) (c .before .before .put-spaced .ensures))
+loop-again c =
+    let after-put-spaced = c .before .before in
+    let in-loop = after-put-spaced .before .before .before in
+    let at-loop = in-loop .before in
+    (search needs, inked-more _ _ (at-loop .loop .inv .1) (after-put-spaced .put-spaced .ensures))
 
 same-length : tie.Need-same-length Inv-loop μ-loop
-same-length c = c .before .loop .inv .1 .kept
+same-length c =
+    let at-loop = c .before in
+    at-loop .loop .inv .1 .kept
 
 returns : tie.Need-returns Inv-loop μ-loop
 returns c =
-    let vs = c .before .before .before .before .args .vs .now in
-    inked-all (spacedAt vs) (c .before .loop .i) (length vs) (λ rest. refl) (omega arith) (c .before .loop .inv .1)
+    let at-loop = c .before in
+    let start = at-loop .before .before .before in
+    let vs = start .args .vs .now in
+    inked-all (spacedAt vs) (at-loop .loop .i) (length vs) (λ rest. refl) (omega arith) (at-loop .loop .inv .1)
 
 pub put-numbers-spec : {M : Type 1} → statement M
 put-numbers-spec =

@@ -5,16 +5,24 @@ use Rattle.write_fields.proofs.put_spaced.Statement.{statement}
 use Rattle.write_fields.proofs.put_spaced.Tie as tie
 
 put-byte-requires : tie.Need-put-byte-requires
-put-byte-requires c κs = room-first (front-byte 32) (c .before .before .pre)
+put-byte-requires c κs =
+    let start = c .before .before in
+    room-first (front-byte 32) (start .pre)
 
 put-number-requires : tie.Need-put-number-requires
-put-number-requires c κs = room-after (c .before .before .before .put-byte .ensures) (c .before .before .before .before .before .before .pre)
+put-number-requires c κs =
+    let after-put-byte = c .before .before .before in
+    let start = after-put-byte .before .before .before in
+    room-after (after-put-byte .put-byte .ensures) (start .pre)
 
 same-length : tie.Need-same-length
 same-length c = search needs
 
 returns : tie.Need-returns
-returns c = inked-then (c .before .before .before .before .before .before .put-byte .ensures) (c .before .before .put-number .ensures)
+returns c =
+    let after-put-number = c .before .before in
+    let after-put-byte = after-put-number .before .before .before .before in
+    inked-then (after-put-byte .put-byte .ensures) (after-put-number .put-number .ensures)
 
 pub put-spaced-spec : {M : Type 1} → statement M
 put-spaced-spec = tie.close (tie.spec put-byte-requires put-number-requires same-length returns)

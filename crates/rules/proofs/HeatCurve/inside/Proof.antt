@@ -47,25 +47,39 @@ module _ (k a b c r : ℕ) where
               )
 
 returns : tie.Need-returns
-returns c = let s = c .before .args in low (s .k) (s .a) (s .b) (s .c) (s .r) (omega arith)
+returns c =
+    let start = c .before in
+    let s = start .args in low (s .k) (s .a) (s .b) (s .c) (s .r) (omega arith)
 
 returns-2 : tie.Need-returns-2
-returns-2 c = let s = c .before .before .args in high (s .k) (s .a) (s .b) (s .c) (s .r) (omega arith)
+returns-2 c =
+    let start = c .before .before in
+    let s = start .args in high (s .k) (s .a) (s .b) (s .c) (s .r) (omega arith)
 
 returns-3 : tie.Need-returns-3
-returns-3 c = let s = c .before .before .before .args in over-a (s .k) (s .a) (s .b) (s .c) (s .r) (omega arith) (omega arith) (omega arith)
+returns-3 c =
+    let start = c .before .before .before in
+    let s = start .args in over-a (s .k) (s .a) (s .b) (s .c) (s .r) (omega arith) (omega arith) (omega arith)
 
 returns-4 : tie.Need-returns-4
-returns-4 c = let s = c .before .before .before .before .args in over-b (s .k) (s .a) (s .b) (s .c) (s .r) (omega arith) (omega arith) (omega arith) (omega arith)
+returns-4 c =
+    let start = c .before .before .before .before in
+    let s = start .args in over-b (s .k) (s .a) (s .b) (s .c) (s .r) (omega arith) (omega arith) (omega arith) (omega arith)
 
 returns-5 : tie.Need-returns-5
-returns-5 c = let s = c .before .before .before .before .before .args in over-c (s .k) (s .a) (s .b) (s .c) (s .r) (omega arith) (omega arith) (omega arith) (omega arith) (omega arith)
+returns-5 c =
+    let start = c .before .before .before .before .before in
+    let s = start .args in over-c (s .k) (s .a) (s .b) (s .c) (s .r) (omega arith) (omega arith) (omega arith) (omega arith) (omega arith)
 
 returns-6 : tie.Need-returns-6
-returns-6 c = let s = c .before .before .before .before .before .before .args in over-r (s .k) (s .a) (s .b) (s .c) (s .r) (omega arith) (omega arith) (omega arith) (omega arith) (omega arith) (omega arith)
+returns-6 c =
+    let start = c .before .before .before .before .before .before in
+    let s = start .args in over-r (s .k) (s .a) (s .b) (s .c) (s .r) (omega arith) (omega arith) (omega arith) (omega arith) (omega arith) (omega arith)
 
 returns-7 : tie.Need-returns-7
-returns-7 c = let s = c .before .before .before .before .before .before .args in all-inside (s .k) (s .a) (s .b) (s .c) (s .r) (omega arith) (omega arith) (omega arith) (omega arith) (omega arith) (omega arith)
+returns-7 c =
+    let start = c .before .before .before .before .before .before in
+    let s = start .args in all-inside (s .k) (s .a) (s .b) (s .c) (s .r) (omega arith) (omega arith) (omega arith) (omega arith) (omega arith) (omega arith)
 
 pub inside-spec : {M : Type 1} → statement M
 inside-spec = tie.close (tie.spec returns returns-2 returns-3 returns-4 returns-5 returns-6 returns-7)

@@ -9,10 +9,14 @@ inside-requires : tie.Need-inside-requires
 inside-requires c κs = search needs
 
 returns : tie.Need-returns
-returns c = rw (sym (c .before .inside .ensures) ∙ not-true _ (c .if1 .taken))
+returns c =
+    let after-inside = c .before in
+    rw (sym (after-inside .inside .ensures) ∙ not-true _ (c .if1 .taken))
 
 returns-2 : tie.Need-returns-2
-returns-2 c = rw (sym (c .before .inside .ensures) ∙ not-false _ (c .if1 .left))
+returns-2 c =
+    let after-inside = c .before in
+    rw (sym (after-inside .inside .ensures) ∙ not-false _ (c .if1 .left))
 
 pub new-spec : {M : Type 1} → statement M
 new-spec = tie.close (tie.spec inside-requires returns returns-2)

@@ -10,7 +10,9 @@ sub-t7 : tie.Need-sub-t7
 sub-t7 c = search needs
 
 returns : tie.Need-returns
-returns c = let s = c .before .before in rw (s .pre .0)
+returns c =
+    let s = c .before .before in
+    rw (s .pre .0)
 
 pub with-direct-spec : {M : Type 1} → statement M
 with-direct-spec = tie.close (tie.spec sub-t6 sub-t7 returns)
