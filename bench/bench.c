@@ -51,12 +51,12 @@ static uint64_t c_cells(reader *read, rebuilder *rebuild, int by_price) {
 }
 
 static uint64_t plain_c_read(void) { return c_hour(read_plainly); }
-static uint64_t plain_c_price(void) { return c_cells(read_plainly, reconstruct_plainly, 1); }
-static uint64_t plain_c_plain(void) { return c_cells(read_plainly, reconstruct_plainly, 0); }
+static uint64_t plain_c_price(void) { return c_cells(read_plainly, rebuild_plainly, 1); }
+static uint64_t plain_c_plain(void) { return c_cells(read_plainly, rebuild_plainly, 0); }
 static uint64_t plain_c_report(void) { return report_plainly(deck, size, text, MOST_REPORT); }
 static uint64_t quick_c_read(void) { return c_hour(read_deck); }
-static uint64_t quick_c_price(void) { return c_cells(read_deck, reconstruct, 1); }
-static uint64_t quick_c_plain(void) { return c_cells(read_deck, reconstruct, 0); }
+static uint64_t quick_c_price(void) { return c_cells(read_deck, rebuild, 1); }
+static uint64_t quick_c_plain(void) { return c_cells(read_deck, rebuild, 0); }
 static uint64_t quick_c_report(void) { return report(deck, size, text, MOST_REPORT); }
 
 /* Hours read before, each by its own reader. */

@@ -695,10 +695,14 @@ struct refusal reconstruct_read(const struct hour *h, int64_t *cells, int by_pri
     return refusal;
 }
 
-struct refusal reconstruct(const struct hour *h, int64_t *cells, size_t room, int by_price) {
-    if (!some_deck_gives(h))
-        return (struct refusal){15, 0};
+struct refusal rebuild(const struct hour *h, int64_t *cells, size_t room, int by_price) {
     if (room < cell_count(h))
         return (struct refusal){14, 0};
     return reconstruct_read(h, cells, by_price);
+}
+
+struct refusal reconstruct(const struct hour *h, int64_t *cells, size_t room, int by_price) {
+    if (!some_deck_gives(h))
+        return (struct refusal){15, 0};
+    return rebuild(h, cells, room, by_price);
 }

@@ -22,10 +22,14 @@ size_t cell_count(const struct hour *h);
    By price each group's marginal price is looked for and whole blocks are moved; otherwise single MWh. */
 struct refusal reconstruct(const struct hour *h, int64_t *cells, size_t room, int by_price);
 
-/* The same for an hour just read from a deck and a buffer known to hold its cells: 12 and 13 only. */
+/* The same for an hour just read from a deck: 14, 12 and 13. */
+struct refusal rebuild(const struct hour *h, int64_t *cells, size_t room, int by_price);
+
+/* And where the buffer is known to hold its cells: 12 and 13 only. */
 struct refusal reconstruct_read(const struct hour *h, int64_t *cells, int by_price);
 
-/* The same as reconstruct and number_deliveries, written independently from document 01 and its settled readings (plain.c). */
+/* The same as reconstruct, rebuild and number_deliveries, written independently from document 01 and its settled readings (plain.c). */
+struct refusal rebuild_plainly(const struct hour *h, int64_t *cells, size_t room, int by_price);
 struct refusal reconstruct_plainly(const struct hour *h, int64_t *cells, size_t room, int by_price);
 void number_plainly(const struct hour *h, uint32_t number[32]);
 

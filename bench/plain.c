@@ -481,8 +481,7 @@ static void share(const struct hour *h, const struct groups *gs, size_t j, const
     }
 }
 
-struct refusal reconstruct_plainly(const struct hour *h, int64_t *cells, size_t room, int by_price) {
-    if (!deck_gives(h)) return (struct refusal){15, 0};
+struct refusal rebuild_plainly(const struct hour *h, int64_t *cells, size_t room, int by_price) {
     size_t pairs = h->deliveries * h->sources;
     if (room < 4 * pairs + 2 * h->sources) return (struct refusal){14, 0};
     struct groups gs;
@@ -506,4 +505,9 @@ struct refusal reconstruct_plainly(const struct hour *h, int64_t *cells, size_t 
         cells[4 * pairs + 2 * i + 1] = cost(&s, i, s.level[i]) - s.direct_cost[i];
     }
     return (struct refusal){0, 0};
+}
+
+struct refusal reconstruct_plainly(const struct hour *h, int64_t *cells, size_t room, int by_price) {
+    if (!deck_gives(h)) return (struct refusal){15, 0};
+    return rebuild_plainly(h, cells, room, by_price);
 }

@@ -78,7 +78,7 @@ static void put_report(struct page *p, const uint8_t *deck, size_t n) {
     struct hour h = {0};
     int64_t cells[MOST_CELLS];
     struct refusal r = read_plainly(deck, n, &h);
-    if (!r.number) r = reconstruct_plainly(&h, cells, MOST_CELLS, 1);
+    if (!r.number) r = rebuild_plainly(&h, cells, MOST_CELLS, 1);
     if (!r.number) {
         put_hour(p, &h, cells);
         return;
