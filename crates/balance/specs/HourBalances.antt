@@ -9,7 +9,7 @@ use lib.ListN.{length, getD, List·getD-map}
 use Rattle.balance.specs.SharesMakeUpTheAmount.{shares-sum, share-none}
 use Rattle.balance.specs.TakenAndLeft.{worth, opened-worth, group-mwh, group-cost}
 use Rattle.laws.specs.Choices.{accepted-same, Both, then-passed, true-not-false}
-use Rattle.laws.specs.Keys.{key-same, among, first-once, Turns, turns-rest, turns-first}
+use Rattle.laws.specs.Keys.{key-same, among, among-first, among-later, first-once, Turns, turns-rest, turns-first}
 use Rattle.laws.specs.Signed.{value, sumℤ, sumℤ-zero, sumℤ-carried}
 use Rattle.laws.specs.Sums.{sumTo-most, sumTo-add}
 use Rattle.merit.specs.ChangedFromB.{Starts}
@@ -146,7 +146,7 @@ module _ (h : Hour) (ks : List Key) where
         sound = λ i. moved-sound _ _ (d i .took .sound) (m i);
         plant = λ i. ap (λ (y : Running). y .plant) (m i .is) ∙ d i .took .plant ∙ b .plant i;
         percent = λ i. let e = ap (λ (y : Running). y .percent) (m i .is) in omega (arith, e, d i .percent, lines-left x xs i (h .ndirects) once, b .percent i);
-        untouched = λ j i item y. shared-keeps x ss ts us (p .cells) j i item (awaits-other x xs j once y) ∙ b .untouched j i item (late (member ks x j) (awaits xs j) y);
+        untouched = λ j i item y. shared-keeps x ss ts us (p .cells) j i item (awaits-other x xs j once y) ∙ b .untouched j i item (among-later x xs (keyAt ks j) y);
         mwh = λ i. column i directMwh incrementalMwh (stateAt us i .v) (stateAt ss i .v) _ (group-mwh (stateAt ss i) (stateAt ts i) (stateAt us i) (b .sound i) (d i .took) (m i)) (b .mwh i);
         grains = λ i. column i directCost incrementalCost (worth (stateAt us i)) (worth (stateAt ss i)) _ (group-cost (stateAt ss i) (stateAt ts i) (stateAt us i) (b .sound i) (d i .took) (m i)) (b .grains i);
       })
@@ -154,12 +154,9 @@ module _ (h : Hour) (ks : List Key) where
       once : among xs x ≡ false
       once = first-once x xs (t .ordered)
 
-      late : (a b : Bool) → b ≡ true → (a || b) ≡ true
-      late true b e = refl
-      late false b e = e
-
-      first : (a b : Bool) → a ≡ true → (a || b) ≡ true
-      first a b e = rw e
+      -- a member awaits its group
+      own : (j : ℕ) → member ks x j ≡ true → awaits (x ∷ xs) j ≡ true
+      own j e = rw (key-same (keyAt ks j) x e) (among-first x xs)
 
       ss : List Running
       ss = p .states
@@ -180,7 +177,7 @@ module _ (h : Hour) (ks : List Key) where
       part i item = amount item (stateAt ss i) (stateAt ts i) (stateAt us i)
 
       adds : (i : ℕ) (item : Item) (j : ℕ) → j < h .ndeliveries → shared h ks x ss ts us (p .cells) j i item ≡ p .cells j i item +ℤ share h ks x (part i item) j
-      adds i item j y = shared-adds x ss ts us (p .cells) j i item (λ z. b .untouched j i item (first (member ks x j) (awaits xs j) z))
+      adds i item j y = shared-adds x ss ts us (p .cells) j i item (λ z. b .untouched j i item (own j z))
 
       column : (i : ℕ) (v w : Item) (after before whole : ℕ) →
           (value (part i v) +ℤ value (part i w)) +ℤ pos after ≡ pos before →

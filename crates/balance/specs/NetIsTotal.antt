@@ -1,12 +1,12 @@
 -- "A group's net MWh equals its total": by so much the open energy falls, and to so much the signed amounts that are shared out add up.
-use mathlib.Core.Bool.{Bool, true, false, _||_}
+use mathlib.Core.Bool.{Bool, true, false}
 use mathlib.Core.List.{List, [], _∷_, _++_, append-nil}
 use mathlib.Core.Path.{_≡_, refl, sym, ap, _∙_}
 use Prim.Native.Nat.{ℕ, _+_, _-_, _<_}
 use native.Mathlib.Omega.{arith}
 use lib.IntN.{ℤ, pos, _+ℤ_}
 use Rattle.laws.specs.Choices.{true-not-false}
-use Rattle.laws.specs.Keys.{key-same, among, first-once, Turns}
+use Rattle.laws.specs.Keys.{key-same, among, among-neither, first-once, Turns}
 use Rattle.laws.specs.Signed.{value, sumℤ, sumℤ-add, sumℤ-same, sumℤ-left, left-taken}
 use Rattle.laws.specs.Sums.{sumTo-add}
 use Rattle.balance.specs.AnswerCells.{cellAt, pairPlace, pair-at, answer-cells}
@@ -95,9 +95,6 @@ module _ (h : Hour) (ks : List Key) where
   grouped-nets : (x : Key) (xs : List Key) (p q : Progress) → among xs x ≡ false → Balanced h ks (x ∷ xs) p → Grouped h ks x p q → Nets (x ∷ xs) p → Nets xs q
   grouped-nets x xs p q once b g nets y l c = go (sameKey y x) refl
     where
-      ends : (a d : Bool) → a ≡ false → d ≡ false → (a || d) ≡ false
-      ends a d e f = rw (e, f)
-
       apart : sameKey y x ≡ false → (j : ℕ) → member ks y j ≡ true → member ks x j ≡ false
       apart e j f = ap (λ (z : Key). sameKey z x) (key-same (keyAt ks j) y f) ∙ e
 
@@ -106,7 +103,7 @@ module _ (h : Hour) (ks : List Key) where
       go false e =
           rw (g .is)
           (kept-net y (p .cells) (shared h ks x (p .states) (afterLines h ks x p) (g .us) (p .cells))
-          (λ j i item z. shared-keeps h ks x (p .states) (afterLines h ks x p) (g .us) (p .cells) j i item (apart e j z)) ∙ nets y (ends (sameKey y x) (among xs y) e l) c)
+          (λ j i item z. shared-keeps h ks x (p .states) (afterLines h ks x p) (g .us) (p .cells) j i item (apart e j z)) ∙ nets y (among-neither x xs y e l) c)
 
   groups-nets : Given h → (xs : List Key) → Turns ks (h .ndeliveries) xs → ((y : Key) → 0 < counted ks y (h .ndeliveries) → among xs y ≡ true) → (q : Progress) → groups h ks xs (opening h) ≡ accepted q → Nets [] q
   groups-nets g xs t all q e =

@@ -1,5 +1,5 @@
 -- The table between groups: each group that is done has a first member, which leads it, and in that member's row the moves whose amounts its members' cells are shares of.
-use mathlib.Core.Bool.{Bool, true, false, _||_}
+use mathlib.Core.Bool.{Bool, true, false}
 use mathlib.Core.List.{List, _∷_}
 use mathlib.Core.Logic.{_≢_}
 use mathlib.Core.Path.{_≡_, refl, sym, ap, _∙_}
@@ -11,7 +11,7 @@ use lib.ListN.{length, getD, set, replicate, length-set, length-replicate, getD-
 use lib.Seq.{getD-set-same, getD-set-other}
 use Rattle.groups.specs.RowKept.{RowKept}
 use Rattle.laws.specs.Choices.{true-not-false}
-use Rattle.laws.specs.Keys.{key-same, key-itself, among}
+use Rattle.laws.specs.Keys.{key-same, key-itself, among, among-first, among-later, among-neither}
 use Rattle.members.specs.Leads.{Lead, LeadsGroup}
 use Rattle.merit.specs.LevelNeverBelowB.{stateAt}
 use Rattle.moves.specs.LaterStates.{Later, later-same, later-then, took-later, moved-later}
@@ -70,7 +70,7 @@ module _ (h : Hour) (ks : List Key) where
 
     -- nothing stands in that row yet
     pub row-blank : (i : ℕ) → i < h .nsources → getD kept (lead * 32 + i) 0 ≡ 0
-    row-blank i b = s .blank lead i (l .within) (rw its-key (ap (λ (y : Bool). y || among xs x) (key-itself x))) (omega arith)
+    row-blank i b = s .blank lead i (l .within) (rw its-key (among-first x xs)) (omega arith)
 
     pub row-within : lead < 32
     row-within = omega (arith, l .within)
@@ -147,16 +147,9 @@ module _ (h : Hour) (ks : List Key) where
           owed = λ k b c. owed-by (sameKey (keyAt ks k) x) k b c refl;
           blank = λ j i b c f.
               let e : j ≢ lead = λ q. true-not-false (sym c ∙ ap (among xs) (ap (λ (y : ℕ). keyAt ks y) q ∙ its-key) ∙ once) in
-              d .apart .kept j i e f ∙ s .blank j i b (late (sameKey (keyAt ks j) x) (among xs (keyAt ks j)) c) f;
+              d .apart .kept j i e f ∙ s .blank j i b (among-later x xs (keyAt ks j) c) f;
         }
           where
-            late : (a b : Bool) → b ≡ true → (a || b) ≡ true
-            late true b e = refl
-            late false b e = e
-
-            neither : (a b : Bool) → a ≡ false → b ≡ false → (a || b) ≡ false
-            neither a b e f = rw (e, f)
-
             owed-by : (a : Bool) (k : ℕ) → k < h .ndeliveries → among xs (keyAt ks k) ≡ false → sameKey (keyAt ks k) x ≡ a → Owed (shared h ks x ss ts us cells) (set led lead (total + 1)) kept′ us k
             owed-by true k b c e = its-owed k (key-same (keyAt ks k) x e)
-            owed-by false k b c e = other-owed k e (s .owed k b (neither (sameKey (keyAt ks k) x) (among xs (keyAt ks k)) e c))
+            owed-by false k b c e = other-owed k e (s .owed k b (among-neither x xs (keyAt ks k) e c))

@@ -1,4 +1,4 @@
-// Every group of an hour in turn, in their turns, by either engine: the states in the end, and where each group found and left each source.
+// Every group of an hour in its turn, by either engine: the states in the end, and where each group found and left each source.
 // The contracts cite specs/: GroupTurns for where a run stands, RowKept and MovesOfGroups for what the table keeps.
 use group::Settled;
 use rules::Hour;

@@ -32,6 +32,19 @@ abbrev pub among : List Key → Key → Bool
 among [] y = false
 among (x ∷ xs) y = sameKey y x || among xs y
 
+pub among-first : (x : Key) (xs : List Key) → among (x ∷ xs) x ≡ true
+among-first x xs = ap (λ (b : Bool). b || among xs x) (key-itself x)
+
+pub among-later : (x : Key) (xs : List Key) (y : Key) → among xs y ≡ true → among (x ∷ xs) y ≡ true
+among-later x xs y e = go (sameKey y x)
+  where
+    go : (b : Bool) → (b || among xs y) ≡ true
+    go true = refl
+    go false = e
+
+pub among-neither : (x : Key) (xs : List Key) (y : Key) → sameKey y x ≡ false → among xs y ≡ false → among (x ∷ xs) y ≡ false
+among-neither x xs y e f = rw (e, f)
+
 -- each before all that stand after it
 pub Ordered : List Key → Type 0
 Ordered [] = Unit
@@ -107,12 +120,8 @@ among-turns (x ∷ xs) y = among-in-turn x (turns xs) y ∙ ap (λ (b : Bool). s
 -- a delivery's own key
 pub among-own : (ks : List Key) (j : ℕ) → j < length ks → among ks (keyAt ks j) ≡ true
 among-own [] j l = absurd (omega arith)
-among-own (x ∷ xs) zero l = ap (λ (b : Bool). b || among xs x) (key-itself x)
-among-own (x ∷ xs) (suc j) l = or-late (sameKey (keyAt xs j) x) (among xs (keyAt xs j)) (among-own xs j (omega arith))
-  where
-    or-late : (a b : Bool) → b ≡ true → (a || b) ≡ true
-    or-late true b e = refl
-    or-late false b e = e
+among-own (x ∷ xs) zero l = among-first x xs
+among-own (x ∷ xs) (suc j) l = among-later x xs (keyAt xs j) (among-own xs j (omega arith))
 
 -- a key that deliveries have is one's
 pub record Found (ks : List Key) (y : Key) : Type 0 where
@@ -138,14 +147,10 @@ pub record Turns (ks : List Key) (n : ℕ) (xs : List Key) : Type 0 where
 
 pub turns-rest : (ks : List Key) (n : ℕ) (x : Key) (xs : List Key) → Turns ks n (x ∷ xs) → Turns ks n xs
 unfolding Ordered
-turns-rest ks n x xs t = record { ordered = t .ordered .1; served = λ y e. t .served y (late (sameKey y x) (among xs y) e) }
-  where
-    late : (a b : Bool) → b ≡ true → (a || b) ≡ true
-    late true b e = refl
-    late false b e = e
+turns-rest ks n x xs t = record { ordered = t .ordered .1; served = λ y e. t .served y (among-later x xs y e) }
 
 pub turns-first : (ks : List Key) (n : ℕ) (x : Key) (xs : List Key) → Turns ks n (x ∷ xs) → 0 < counted ks x n
-turns-first ks n x xs t = t .served x (ap (λ (b : Bool). b || among xs x) (key-itself x))
+turns-first ks n x xs t = t .served x (among-first x xs)
 
 pub all-turns : (ks : List Key) (n : ℕ) → length ks ≤ n → Turns ks n (turns ks)
 all-turns ks n l = record {

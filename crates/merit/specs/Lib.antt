@@ -3,6 +3,7 @@ pub mod Settled
 pub mod ChangedFromB
 pub mod PricesRise
 pub mod LevelNeverBelowB
+pub mod ChargesAddUp
 pub mod PlainMoves
 pub mod RemainderMoves
 pub mod PlainIsSettled

@@ -1,7 +1,7 @@
 -- The one number that a call for C gives back for a refusal tells the refusal's number and its place: no deck's refusal has a place above 99, and no
 -- reconstruction's one above 999.
 --     deck-told, cells-told
-use mathlib.Core.Bool.{Bool, true, false, not, _&&_, _||_}
+use mathlib.Core.Bool.{Bool, true, false, not, _&&_}
 use mathlib.Core.List.{List, [], _∷_}
 use mathlib.Core.Option.{Option, none, some}
 use mathlib.Core.Path.{_≡_, refl, sym, ap, _∙_}
@@ -13,7 +13,7 @@ use lib.ListN.{length}
 use Rattle.balance.specs.EveryGroupIsDone.{every-number-is-low}
 use Rattle.balance.specs.RefusedExactly.{unload-refused, credit-refused}
 use Rattle.refusals.specs.Codes.{codeOf}
-use Rattle.laws.specs.Keys.{key-itself, among, among-turns, among-found}
+use Rattle.laws.specs.Keys.{among, among-first, among-later, among-turns, among-found}
 use Rattle.laws.specs.Lists.{findTo-passes}
 use Rattle.rules.specs.Calls as calls
 use Rattle.rules.specs.Calls.{reconstruction}
@@ -21,7 +21,7 @@ use Rattle.rules.specs.Fields.{Chars, Field, got, malformed}
 use Rattle.rules.specs.Group as groupRules
 use Rattle.rules.specs.Group.{groupLines, remainder, unload, credit}
 use Rattle.rules.specs.Hour as hours
-use Rattle.rules.specs.Hour.{Progress, cellCount, cellsOf, group, groups, opening, keys, member, sameKey, scheduled, shared, tookAll, turns}
+use Rattle.rules.specs.Hour.{Progress, cellCount, cellsOf, group, groups, opening, keys, member, scheduled, shared, tookAll, turns}
 use Rattle.rules.specs.Lines.{Fields, H, U, P, F, T, D, E, Letter, Line, fieldsOf, lineAt, ranged}
 use Rattle.rules.specs.Reading as readings
 use Rattle.rules.specs.Reading.{allPlaced, basisKept, belowHigh, delivered, deliveryNamed, deliveryTaken, deliveryUsed, directTaken, finished, generated, headed, headedAs, isEnd, lineNumber, linesFrom, named, onLine, percentsOf, reading, sourceTaken, sourceUsed, taken, takenAs, turn, unitNamed, unplaced}
@@ -193,12 +193,8 @@ groups-told : (h : Hour) (ks xs : List Key) (p : Progress) → ((y : Key) → am
 unfolding hours.groups
 groups-told h ks [] p low = tt
 groups-told h ks (x ∷ xs) p low =
-    then-told 999 Any Any (group h ks x p) (groups h ks xs) (group-told h ks x p (low x (ap (λ (b : Bool). b || among xs x) (key-itself x))))
-    (λ q t. groups-told h ks xs q (λ y e. low y (late (sameKey y x) (among xs y) e)))
-  where
-    late : (a b : Bool) → b ≡ true → (a || b) ≡ true
-    late true b e = refl
-    late false b e = e
+    then-told 999 Any Any (group h ks x p) (groups h ks xs) (group-told h ks x p (low x (among-first x xs)))
+    (λ q t. groups-told h ks xs q (λ y e. low y (among-later x xs y e)))
 
 -- a key among the turns is a delivery's
 turn-low : (h : Hour) → valid h ≡ true → (y : Key) → among (turns (keys h)) y ≡ true → y .number .0 ≤ 999

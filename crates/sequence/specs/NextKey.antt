@@ -7,7 +7,7 @@ use native.Mathlib.Numerals.{add-one}
 use native.Mathlib.Omega.{arith}
 use borrow.Author.Tests.{ltb-true, ltb-false, lt-ltb}
 use Rattle.laws.specs.Choices.{true-not-false}
-use Rattle.laws.specs.Keys.{key-itself, key-other, key-same, among, among-either, Turns, turns-rest, turns-first, first-before}
+use Rattle.laws.specs.Keys.{key-itself, key-other, among, among-first, among-either, Turns, turns-rest, turns-first, first-before}
 use Rattle.rules.specs.Hour.{noKey, keyAt, sameKey, counted, goesBefore}
 use Rattle.rules.specs.Words.{if_then_else_, sumTo}
 use Rattle.rules.specs.declared.Key.{Key}
@@ -88,13 +88,10 @@ pub record Coming (ks : List Key) (n : ℕ) (x : Key) (xs : List Key) : Type 0 w
   pub after : (y : Key) → among xs y ≡ true → goesBefore x y ≡ true
   pub all : (y : Key) → 0 < counted ks y n → goesBefore x y ≡ true → among xs y ≡ true
 
-own : (y : Key) (ys : List Key) → among (y ∷ ys) y ≡ true
-own y ys = ap (λ (b : Bool). b || among ys y) (key-itself y)
-
 pub coming-none : (ks : List Key) (n : ℕ) (x : Key) (xs : List Key) (r : NextGroup) → Coming ks n x xs → Next ks n x r → r .there ≡ false → xs ≡ []
 coming-none ks n x [] r c f e = refl
 coming-none ks n x (y ∷ ys) r c f e =
-    absurd (omega (arith, turns-first ks n y ys (c .turns), f .none y (c .after y (own y ys)) (λ g. true-not-false (sym g ∙ e))))
+    absurd (omega (arith, turns-first ks n y ys (c .turns), f .none y (c .after y (among-first y ys)) (λ g. true-not-false (sym g ∙ e))))
 
 -- the next one, and those after it
 pub record First (ks : List Key) (n : ℕ) (y : Key) (xs : List Key) : Type 0 where
@@ -112,7 +109,7 @@ coming-next ks n x (y ∷ ys) r c f e = record { ys = ys; is = ap (λ (z : Key).
     -- nothing that has a member stands before it
     same : r .key ≡ y
     same = among-either (r .key ≡ y) y ys (r .key) here (λ q. q)
-        (λ q. absurd (omega (arith, turns-first ks n y ys (c .turns), f .none y (c .after y (own y ys)) (λ g. lt-ltb (r .key .number .0) (y .number .0) (first-before y ys (c .turns .ordered) (r .key) q)))))
+        (λ q. absurd (omega (arith, turns-first ks n y ys (c .turns), f .none y (c .after y (among-first y ys)) (λ g. lt-ltb (r .key .number .0) (y .number .0) (first-before y ys (c .turns .ordered) (r .key) q)))))
 
     left : Coming ks n y ys
     left = record {
@@ -120,7 +117,7 @@ coming-next ks n x (y ∷ ys) r c f e = record { ys = ys; is = ap (λ (z : Key).
       after = λ z m. lt-ltb (z .number .0) (y .number .0) (first-before y ys (c .turns .ordered) z m);
       all = λ z m g.
           let a = ltb-true (z .number .0) (y .number .0) g in
-          let b = ltb-true (y .number .0) (x .number .0) (c .after y (own y ys)) in
+          let b = ltb-true (y .number .0) (x .number .0) (c .after y (among-first y ys)) in
           among-either (among ys z ≡ true) y ys z (c .all z m (lt-ltb (z .number .0) (x .number .0) (omega arith)))
           (λ q. absurd (let w = ap (λ (k : Key). k .number .0) q in omega arith)) (λ q. q);
     }
