@@ -6,8 +6,11 @@ use native.Mathlib.Omega.{arith}
 use lib.IntN.{ℤ, pos}
 use lib.ListN.{length, getD, length-append}
 use lib.Seq.{getD-append-add}
+use Rattle.balance.specs.Accounts.{itemPlace, openItemPlace, item-within, open-item-within, item-read, open-item-read}
 use Rattle.laws.specs.Choices.{accepted-same, Both, then-passed}
 use Rattle.laws.specs.Sums.{listTo-length, listTo-read}
+use Rattle.merit.specs.LevelNeverBelowB.{stateAt}
+use Rattle.rules.specs.Group.{Item, OpenItem, openAmount}
 use Rattle.rules.specs.Hour.{Progress, reconstructed, pairCells, openCells, pairWidth, openWidth, cellsOf, cellCount, answer}
 use Rattle.rules.specs.Refusals.{accepted}
 use Rattle.rules.specs.Words.{listTo}
@@ -22,6 +25,13 @@ pairPlace h j i k = j * (h .nsources * pairWidth) + (i * pairWidth + k)
 
 abbrev pub openPlace : Hour → ℕ → ℕ → ℕ
 openPlace h i k = h .ndeliveries * (h .nsources * pairWidth) + (i * openWidth + k)
+
+-- a pair's cell of an item, and a source's open one
+abbrev pub pairCell : Hour → List ℤ → ℕ → ℕ → Item → ℤ
+pairCell h xs j i x = cellAt xs (pairPlace h j i (itemPlace x))
+
+abbrev pub openCell : Hour → List ℤ → ℕ → OpenItem → ℤ
+openCell h xs i x = cellAt xs (openPlace h i (openItemPlace x))
 
 module _ (h : Hour) (p : Progress) where
   abbrev row : ℕ → List ℤ
@@ -47,6 +57,12 @@ module _ (h : Hour) (p : Progress) where
       getD-append-add (listTo row (h .ndeliveries)) (listTo (openCells (p .states)) (h .nsources)) (i * openWidth + k) (pos 0) ∙
       ap (λ (x : List ℤ). getD x (i * openWidth + k) (pos 0)) (sym (append-nil (listTo (openCells (p .states)) (h .nsources)))) ∙
       listTo-read (openCells (p .states)) openWidth (λ y. refl) (h .nsources) i k (pos 0) [] b c
+
+  pub pair-cell : (j i : ℕ) (x : Item) → j < h .ndeliveries → i < h .nsources → pairCell h (cellsOf h p) j i x ≡ p .cells j i x
+  pair-cell j i x a b = pair-at j i (itemPlace x) a b (item-within x) ∙ item-read (p .cells j i) x
+
+  pub open-cell : (i : ℕ) (x : OpenItem) → i < h .nsources → openCell h (cellsOf h p) i x ≡ pos (openAmount x (stateAt (p .states) i))
+  open-cell i x b = open-at i (openItemPlace x) b (open-item-within x) ∙ open-item-read (λ y. pos (openAmount y (stateAt (p .states) i))) x
 
   pub cells-length : length (cellsOf h p) ≡ cellCount h
   unfolding cellsOf

@@ -1,6 +1,6 @@
 -- Where the plants' numbers are in document 01's ranges, every cell of an answer is at most 10^14 in size, and so fits 64 signed bits.
 use mathlib.Core.Bool.{Bool, true, false}
-use mathlib.Core.List.{List, [], _∷_, _++_, append-nil}
+use mathlib.Core.List.{List, [], _∷_, _++_, map, append-nil}
 use mathlib.Core.Path.{_≡_}
 use Prim.Native.Nat.{ℕ, zero, suc, _+_, _-_, _^_, _≤_, _<_}
 use native.Mathlib.Omega.{arith}
@@ -16,8 +16,8 @@ use Rattle.balance.specs.KeysOfAnHour.{hour-turns}
 use Rattle.merit.specs.LevelNeverBelowB.{Sound, stateAt, Took, moved-sound}
 use Rattle.merit.specs.NumbersStaySmall.{PlantSmall, Small, level-small, changed-small, charged-small, opened-small, took-small, shift-small}
 use Rattle.merit.specs.RemainderMoves.{Shift, shift-moved, remainder-moves}
-use Rattle.rules.specs.Group.{level, Amount, signed, Item, directMwh, incrementalMwh, directCost, incrementalCost, amount}
-use Rattle.rules.specs.Hour.{keys, member, share, Cells, Progress, shared, turns, groups, opening, reconstructed, pairCells, openCells, cellsOf, answer}
+use Rattle.rules.specs.Group.{level, Amount, signed, Item, directMwh, incrementalMwh, directCost, incrementalCost, amount, OpenItem, openMwh, openGrains, openAmount}
+use Rattle.rules.specs.Hour.{keys, member, share, Cells, Progress, shared, turns, groups, opening, reconstructed, items, pairCells, openItems, openCells, cellsOf, answer}
 use Rattle.rules.specs.Refusals.{accepted}
 use Rattle.rules.specs.Words.{if_then_else_, listTo}
 use Rattle.rules.specs.declared.Hour.{Hour}
@@ -42,6 +42,11 @@ amount-small incrementalMwh s t u gt gu lt lu = omega (arith, level-small t gt l
 amount-small directCost s t u gt gu lt lu = omega (arith, charged-small t gt lt)
 amount-small incrementalCost s t u gt gu lt lu =
     omega (arith, changed-small t lt (level t) (level-small t gt lt), changed-small u lu (level u) (level-small u gu lu))
+
+-- and what is left open of it
+open-amount-small : (item : OpenItem) (s : Running) → Sound s → Small s → openAmount item s ≤ 100_000_000_000_000
+open-amount-small openMwh s g l = omega (arith, l .v)
+open-amount-small openGrains s g l = omega (arith, changed-small s l (s .d + s .v) (omega (arith, level-small s g l)))
 
 module _ (h : Hour) (ks : List Key) where
   -- where a run stands
@@ -118,6 +123,10 @@ append-small [] ys a b k = b k
 append-small (x ∷ xs) ys a b zero = a 0
 append-small (x ∷ xs) ys a b (suc k) = append-small xs ys (λ i. a (suc i)) b k
 
+map-small : {A : Type 0} (f : A → ℤ) (xs : List A) → ((x : A) → SmallCell (f x)) → SmallCells (map f xs)
+map-small f [] h = nil-small
+map-small f (x ∷ xs) h = cons-small (f x) (map f xs) (h x) (map-small f xs h)
+
 listTo-small : (f : ℕ → List ℤ) (n : ℕ) → ((i : ℕ) → i < n → SmallCells (f i)) → SmallCells (listTo f n)
 unfolding listTo
 listTo-small f zero h = nil-small
@@ -125,15 +134,10 @@ listTo-small f (suc n) h = append-small (listTo f n) (f n) (listTo-small f n (λ
 
 module _ (h : Hour) (p : Progress) (sound : (i : ℕ) → Sound (stateAt (p .states) i)) (b : Bounded h (keys h) p) where
   pair-small : (j i : ℕ) → j < h .ndeliveries → SmallCells (pairCells (p .cells) j i)
-  pair-small j i l =
-      cons-small _ _ (b .cells j i directMwh l) (cons-small _ _ (b .cells j i incrementalMwh l)
-      (cons-small _ _ (b .cells j i directCost l) (cons-small _ _ (b .cells j i incrementalCost l) nil-small)))
+  pair-small j i l = map-small (p .cells j i) items (λ item. b .cells j i item l)
 
   open-small : (i : ℕ) → SmallCells (openCells (p .states) i)
-  open-small i =
-      let s = stateAt (p .states) i in
-      let small = b .states i in
-      cons-small _ _ (omega (arith, small .v)) (cons-small _ _ (omega (arith, changed-small s small (s .d + s .v) (omega (arith, level-small s (sound i) small)))) nil-small)
+  open-small i = let s = stateAt (p .states) i in map-small (λ item. pos (openAmount item s)) openItems (λ item. open-amount-small item s (sound i) (b .states i))
 
   cells-small : SmallCells (cellsOf h p)
   unfolding cellsOf

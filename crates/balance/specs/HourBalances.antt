@@ -6,8 +6,9 @@ use Prim.Native.Nat.{ℕ, _+_, _≤_, _<_}
 use native.Mathlib.Omega.{arith}
 use lib.IntN.{pos, _+ℤ_, +ℤ-idl, +ℤ-idr}
 use lib.ListN.{length, getD, List·getD-map}
+use Rattle.balance.specs.Accounts.{Account, direct, incremental, whole}
 use Rattle.balance.specs.SharesMakeUpTheAmount.{shares-sum, share-none}
-use Rattle.balance.specs.TakenAndLeft.{worth, opened-worth, group-mwh, group-cost}
+use Rattle.balance.specs.TakenAndLeft.{left, opened-left, group-left}
 use Rattle.laws.specs.Choices.{accepted-same, Both, then-passed, true-not-false}
 use Rattle.laws.specs.Keys.{key-same, among, among-first, among-later, first-once, Turns, turns-rest, turns-first}
 use Rattle.laws.specs.Signed.{value, sumℤ, sumℤ-zero, sumℤ-carried}
@@ -15,12 +16,11 @@ use Rattle.laws.specs.Sums.{sumTo-most, sumTo-add}
 use Rattle.merit.specs.ChangedFromB.{Starts}
 use Rattle.merit.specs.LevelNeverBelowB.{Sound, opened-sound, stateAt, percentOf, percents, Directed, groupLines-directed, Moved, moved-sound}
 use Rattle.merit.specs.RemainderMoves.{shift-moved, remainder-moves}
-use Rattle.rules.specs.Group.{noDirect, opened, groupLines, remainder, Amount, Item, directMwh, incrementalMwh, directCost, incrementalCost, amount}
+use Rattle.rules.specs.Group.{noDirect, opened, groupLines, remainder, Amount, Item, amount}
 use Rattle.rules.specs.Hour.{keyAt, member, scheduled, counted, share, Cells, Progress, shared, tookAll, rest, group, groups, opening}
 use Rattle.rules.specs.Reading.{percentsOf}
 use Rattle.rules.specs.Record.{noSource, sourceAt}
 use Rattle.rules.specs.Refusals.{Outcome, accepted, andThen}
-use Rattle.rules.specs.Units.{generation, generationCost}
 use Rattle.rules.specs.Words.{if_then_else_}
 use Rattle.rules.specs.declared.Direct.{Direct}
 use Rattle.rules.specs.declared.Hour.{Hour}
@@ -120,8 +120,7 @@ module _ (h : Hour) (ks : List Key) where
     pub plant : (i : ℕ) → stateAt (p .states) i .plant ≡ plantAt h i
     pub percent : (i : ℕ) → stateAt (p .states) i .percent + percents (awaits xs) (h .directs) i (h .ndirects) ≤ 100
     pub untouched : (j i : ℕ) (item : Item) → awaits xs j ≡ true → p .cells j i item ≡ pos 0
-    pub mwh : (i : ℕ) → sumℤ (λ j. p .cells j i directMwh +ℤ p .cells j i incrementalMwh) (h .ndeliveries) +ℤ pos (stateAt (p .states) i .v) ≡ pos (generation (plantAt h i))
-    pub grains : (i : ℕ) → sumℤ (λ j. p .cells j i directCost +ℤ p .cells j i incrementalCost) (h .ndeliveries) +ℤ pos (worth (stateAt (p .states) i)) ≡ pos (generationCost (plantAt h i))
+    pub closes : (a : Account) (i : ℕ) → sumℤ (λ j. p .cells j i (direct a) +ℤ p .cells j i (incremental a)) (h .ndeliveries) +ℤ pos (left a (stateAt (p .states) i)) ≡ pos (whole a (plantAt h i))
 
   -- the lines of key x and those of the keys after it are those still to come
   pub lines-left : (x : Key) (xs : List Key) (i n : ℕ) → among xs x ≡ false → percents (member ks x) (h .directs) i n + percents (awaits xs) (h .directs) i n ≡ percents (awaits (x ∷ xs)) (h .directs) i n
@@ -147,8 +146,7 @@ module _ (h : Hour) (ks : List Key) where
         plant = λ i. ap (λ (y : Running). y .plant) (m i .is) ∙ d i .took .plant ∙ b .plant i;
         percent = λ i. let e = ap (λ (y : Running). y .percent) (m i .is) in omega (arith, e, d i .percent, lines-left x xs i (h .ndirects) once, b .percent i);
         untouched = λ j i item y. shared-keeps x ss ts us (p .cells) j i item (awaits-other x xs j once y) ∙ b .untouched j i item (among-later x xs (keyAt ks j) y);
-        mwh = λ i. column i directMwh incrementalMwh (stateAt us i .v) (stateAt ss i .v) _ (group-mwh (stateAt ss i) (stateAt ts i) (stateAt us i) (b .sound i) (d i .took) (m i)) (b .mwh i);
-        grains = λ i. column i directCost incrementalCost (worth (stateAt us i)) (worth (stateAt ss i)) _ (group-cost (stateAt ss i) (stateAt ts i) (stateAt us i) (b .sound i) (d i .took) (m i)) (b .grains i);
+        closes = λ a i. column i (direct a) (incremental a) (left a (stateAt us i)) (left a (stateAt ss i)) _ (group-left a (stateAt ss i) (stateAt ts i) (stateAt us i) (b .sound i) (d i .took) (m i)) (b .closes a i);
       })
     where
       once : among xs x ≡ false
@@ -196,8 +194,7 @@ module _ (h : Hour) (ks : List Key) where
         plant = λ i. ap (λ (y : Running). y .plant) (opening-at i);
         percent = λ i. let e = ap (λ (y : Running). y .percent) (opening-at i) in omega (arith, e, g .percents i, fewer i);
         untouched = λ j i item y. refl;
-        mwh = λ i. rw (opening-at i, sumℤ-zero (h .ndeliveries)) (+ℤ-idl (pos (generation (plantAt h i))));
-        grains = λ i. rw (opening-at i, sumℤ-zero (h .ndeliveries), opened-worth (plantAt h i) (g .starts i)) (+ℤ-idl (pos (generationCost (plantAt h i))));
+        closes = λ a i. rw (opening-at i, sumℤ-zero (h .ndeliveries), opened-left a (plantAt h i) (g .starts i)) (+ℤ-idl (pos (whole a (plantAt h i))));
       }
     where
       put : (a : Bool) (line : Direct) (i : ℕ) → percentOf a line i ≤ percentOf true line i

@@ -1,3 +1,4 @@
+pub mod Accounts
 pub mod SharesMakeUpTheAmount
 pub mod TakenAndLeft
 pub mod KeysOfAnHour

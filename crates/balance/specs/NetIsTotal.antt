@@ -9,7 +9,7 @@ use Rattle.laws.specs.Choices.{true-not-false}
 use Rattle.laws.specs.Keys.{key-same, among, among-neither, first-once, Turns}
 use Rattle.laws.specs.Signed.{value, sumℤ, sumℤ-add, sumℤ-same, sumℤ-left, left-taken}
 use Rattle.laws.specs.Sums.{sumTo-add}
-use Rattle.balance.specs.AnswerCells.{cellAt, pairPlace, pair-at, answer-cells}
+use Rattle.balance.specs.AnswerCells.{pairCell, pair-cell, answer-cells}
 use Rattle.balance.specs.HourBalances.{Given, afterLines, Grouped, groups-keep, Balanced, lines-directed, start-balanced, grouped-balanced, shared-members, shared-keeps}
 use Rattle.balance.specs.KeysOfAnHour.{hour-turns, every-group-has-its-turn}
 use Rattle.balance.specs.SharesMakeUpTheAmount.{shares-sum, share-none}
@@ -113,14 +113,14 @@ module _ (h : Hour) (ks : List Key) where
 
 -- each group's cells add up to its total
 pub answer-net : (h : Hour) → Given h → (xs : List ℤ) → answer h ≡ accepted xs → (x : Key) → 0 < counted (keys h) x (h .ndeliveries) →
-    sumℤ (λ i. sumℤ (λ j. if member (keys h) x j then cellAt xs (pairPlace h j i 0) +ℤ cellAt xs (pairPlace h j i 1) else pos 0) (h .ndeliveries)) (h .nsources) ≡ pos (scheduled h (keys h) x (h .ndeliveries))
+    sumℤ (λ i. sumℤ (λ j. if member (keys h) x j then pairCell h xs j i directMwh +ℤ pairCell h xs j i incrementalMwh else pos 0) (h .ndeliveries)) (h .nsources) ≡ pos (scheduled h (keys h) x (h .ndeliveries))
 unfolding reconstructed
 answer-net h g xs e x c =
     let a = answer-cells h xs e in
     let p = a .progress in
     rw (a .is)
     (sumℤ-same _ _ (h .nsources) (λ i m. sumℤ-same
-    (λ j. if member (keys h) x j then cellAt (cellsOf h p) (pairPlace h j i 0) +ℤ cellAt (cellsOf h p) (pairPlace h j i 1) else pos 0)
+    (λ j. if member (keys h) x j then pairCell h (cellsOf h p) j i directMwh +ℤ pairCell h (cellsOf h p) j i incrementalMwh else pos 0)
     (λ j. if member (keys h) x j then p .cells j i directMwh +ℤ p .cells j i incrementalMwh else pos 0) (h .ndeliveries)
-    (λ j k. rw (pair-at h p j i 0 k m (omega arith), pair-at h p j i 1 k m (omega arith)))) ∙
+    (λ j k. rw (pair-cell h p j i directMwh k m, pair-cell h p j i incrementalMwh k m))) ∙
     groups-nets h (keys h) g (turns (keys h)) (hour-turns h) (λ y z. every-group-has-its-turn h (g .long) y z) p (a .run) x refl c)

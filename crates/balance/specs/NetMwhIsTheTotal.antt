@@ -6,11 +6,12 @@ use Prim.Native.Nat.{ℕ, _+_, _<_}
 use native.Mathlib.Omega.{arith}
 use lib.IntN.{ℤ, pos, _+ℤ_}
 use Rattle.balance.specs.ValidHour.{valid-balances}
-use Rattle.balance.specs.AnswerCells.{cellAt, pairPlace}
+use Rattle.balance.specs.AnswerCells.{pairCell}
 use Rattle.balance.specs.NetIsTotal.{answer-net}
 use Rattle.laws.specs.Keys.{key-itself}
 use Rattle.laws.specs.Signed.{sumℤ}
 use Rattle.laws.specs.Sums.{sumTo-part}
+use Rattle.rules.specs.Group.{directMwh, incrementalMwh}
 use Rattle.rules.specs.Hour.{keyAt, member, scheduled, counted, keys, answer}
 use Rattle.rules.specs.Refusals.{accepted}
 use Rattle.rules.specs.Words.{if_then_else_}
@@ -26,7 +27,7 @@ member-counts ks n j l =
     omega (arith, sumTo-part (λ i. if member ks x i then 1 else 0) n j l, one)
 
 pub net-mwh-is-the-total : (h : Hour) → valid h ≡ true → (xs : List ℤ) → answer h ≡ accepted xs → (k : ℕ) → k < h .ndeliveries →
-    sumℤ (λ i. sumℤ (λ j. if member (keys h) (keyAt (keys h) k) j then cellAt xs (pairPlace h j i 0) +ℤ cellAt xs (pairPlace h j i 1) else pos 0) (h .ndeliveries)) (h .nsources) ≡
+    sumℤ (λ i. sumℤ (λ j. if member (keys h) (keyAt (keys h) k) j then pairCell h xs j i directMwh +ℤ pairCell h xs j i incrementalMwh else pos 0) (h .ndeliveries)) (h .nsources) ≡
     pos (scheduled h (keys h) (keyAt (keys h) k) (h .ndeliveries))
 net-mwh-is-the-total h v xs e k l =
     answer-net h (valid-balances h v) xs e (keyAt (keys h) k) (member-counts (keys h) (h .ndeliveries) k l)

@@ -13,24 +13,26 @@ use mir.Syntax.{w64}
 use mir.Val.{SFits}
 use Rattle.balance.specs.AccountsClose.{accounts-close}
 use Rattle.balance.specs.EveryCellFits.{every-cell-fits}
-use Rattle.balance.specs.AnswerCells.{cellAt, pairPlace, openPlace, answer-length}
+use Rattle.balance.specs.Accounts.{direct, incremental, remaining, itemPlace, openItemPlace, item-within, open-item-within}
+use Rattle.balance.specs.AnswerCells.{cellAt, pairPlace, openPlace, pairCell, openCell, answer-length}
 use Rattle.balance.specs.Balance.{Balances}
 use Rattle.laws.specs.Choices.{not-false, refuse-passed}
 use Rattle.laws.specs.Signed.{sumℤ, sumℤ-same}
 use Rattle.rules.specs.Calls as calls
 use Rattle.rules.specs.Calls.{reconstruction, leaves}
+use Rattle.rules.specs.Group.{Item, OpenItem}
 use Rattle.rules.specs.Hour.{pairWidth, cellCount, answer}
 use Rattle.rules.specs.Refusals.{Outcome, accepted, refuse}
 use Rattle.rules.specs.Writing.{valid}
 use Rattle.rules.specs.declared.Hour.{Hour}
 use Rattle.rules.specs.declared.Refusal.the-variants.{Short, NoDeck}
-use Rattle.balance.specs.CellsAreFew.{count-few}
+use Rattle.balance.specs.CellsAreFew.{mostCells, count-few}
 
 -- an hour whose reconstruction is accepted: a valid one, whose answer are these cells
 pub record Whole (h : Hour) (xs : List ℤ) : Type 0 where
   pub given : valid h ≡ true
   pub whole : answer h ≡ accepted xs
-  pub few : length xs ≤ 4160
+  pub few : length xs ≤ mostCells
 
 pub accepted-whole : (h : Hour) (size : ℕ) (xs : List ℤ) → reconstruction h size ≡ accepted xs → Whole h xs
 unfolding calls.reconstruction calls.cellsFor
@@ -45,23 +47,24 @@ module _ (h : Hour) (xs ys : List ℤ) (long : length xs ≡ cellCount h) where
   first : (k : ℕ) → k < cellCount h → cellAt (xs ++ ys) k ≡ cellAt xs k
   first k l = List·getD-append xs ys (pos 0) k (omega (arith, long))
 
-  pair : (j i k : ℕ) → j < h .ndeliveries → i < h .nsources → k < 4 → cellAt (xs ++ ys) (pairPlace h j i k) ≡ cellAt xs (pairPlace h j i k)
-  pair j i k a b c =
+  pair : (j i : ℕ) (x : Item) → j < h .ndeliveries → i < h .nsources → pairCell h (xs ++ ys) j i x ≡ pairCell h xs j i x
+  pair j i x a b =
       let rows : suc j * (h .nsources * pairWidth) ≤ h .ndeliveries * (h .nsources * pairWidth) = mul-le-mul-right (h .nsources * pairWidth) a in
-      first (pairPlace h j i k) (omega arith)
+      first (pairPlace h j i (itemPlace x)) (omega (arith, item-within x))
 
-  -- two columns of a source's cells
-  columns : (i v w : ℕ) → i < h .nsources → v < 4 → w < 4 →
-      sumℤ (λ j. cellAt (xs ++ ys) (pairPlace h j i v) +ℤ cellAt (xs ++ ys) (pairPlace h j i w)) (h .ndeliveries) ≡ sumℤ (λ j. cellAt xs (pairPlace h j i v) +ℤ cellAt xs (pairPlace h j i w)) (h .ndeliveries)
-  columns i v w l b c =
-      sumℤ-same (λ j. cellAt (xs ++ ys) (pairPlace h j i v) +ℤ cellAt (xs ++ ys) (pairPlace h j i w)) (λ j. cellAt xs (pairPlace h j i v) +ℤ cellAt xs (pairPlace h j i w)) (h .ndeliveries)
-      (λ j m. rw (pair j i v m l b, pair j i w m l c))
+  left-open : (i : ℕ) (x : OpenItem) → i < h .nsources → openCell h (xs ++ ys) i x ≡ openCell h xs i x
+  left-open i x b = first (openPlace h i (openItemPlace x)) (omega (arith, open-item-within x))
 
   balances-longer : (i : ℕ) → i < h .nsources → Balances h xs i → Balances h (xs ++ ys) i
   balances-longer i l b =
       record {
-        mwh = rw (columns i 0 1 l (omega arith) (omega arith), first (openPlace h i 0) (omega arith)) (b .mwh);
-        grains = rw (columns i 2 3 l (omega arith) (omega arith), first (openPlace h i 1) (omega arith)) (b .grains);
+        closes = λ a.
+            rw (
+              sumℤ-same (λ j. pairCell h (xs ++ ys) j i (direct a) +ℤ pairCell h (xs ++ ys) j i (incremental a)) (λ j. pairCell h xs j i (direct a) +ℤ pairCell h xs j i (incremental a)) (h .ndeliveries)
+                  (λ j m. rw (pair j i (direct a) m l, pair j i (incremental a) m l)),
+              left-open i (remaining a) l,
+            )
+            (b .closes a);
       }
 
 module _ (h : Hour) (entry xs : List ℤ) (e : reconstruction h (length entry) ≡ accepted xs) where
