@@ -21,7 +21,7 @@ use rules::Written;
 ghost use Prim.Native.Nat.{_<_};
 
 fn refusal_code(r: Refusal) -> u64 {
-    (refusals::number_of(r) % 16) * 65536 + (refusals::place_of(r) as u64) % 65536
+    (refusals::number_of(r) % 256) * 65536 + (refusals::place_of(r) as u64) % 65536
 }
 
 fn answer_code(x: Written) -> u64 {
