@@ -1,8 +1,21 @@
 // Where to look for the mark next. Nothing is promised of a guess: a poor one costs a round and no MWh.
 ghost use Prim.Native.Nat.{_≤_};
 ghost use Rattle.cutoff.specs.Lines.{lanes};
+use crate::ABOVE_ALL;
 use crate::LANES;
 use crate::Offer;
+use crate::WHOLE;
+
+// Farther than any mark is from another.
+const FAR: u64 = 1_125_899_906_842_624;
+
+// More MWh than these are not divided by: their products would pass 64 bits.
+const MOST_PART: u64 = 131_072;
+
+const MOST_NEED: u64 = 8_388_608;
+
+// From so many sources on the search stops later before the total, and may leave more.
+const MANY: usize = 16;
 
 // What the search knows: at lo there are more MWh than the total, at hi no more, and `spare` of one merit are next below hi. `next` is a mark to try.
 // The slope is to stop `short` MWh before the total, and where it leads nowhere `many` may be left.
@@ -35,11 +48,11 @@ fn between(lo: u64, hi: u64, part: u64, whole: u64) -> u64 {
     if whole == 0 {
         return lo;
     }
-    if 131072 < part {
+    if MOST_PART < part {
         return lo;
     }
     let d = numbers::less(hi, lo) / 64;
-    if 1099511627776 < d {
+    if WHOLE < d {
         return lo;
     }
     numbers::less(hi, d * (part * 64 / whole) + 1)
@@ -65,7 +78,7 @@ fn by_thirds(lo: u64, middle: u64, hi: u64, total: u64, over: u64) -> u64 {
 fn ends(one: &[u64; LANES], span: &[u64; LANES], cap: &[u64; LANES], n: usize, total: u64) -> Guess
     requires { ⌜ n ≤ lanes ⌝ }
 {
-    let mut lo: u64 = 281474976710657;
+    let mut lo: u64 = ABOVE_ALL;
     let mut hi: u64 = 0;
     let mut over: u64 = 0;
     let mut middles: u64 = 0;
@@ -75,7 +88,7 @@ fn ends(one: &[u64; LANES], span: &[u64; LANES], cap: &[u64; LANES], n: usize, t
         let o = one[i];
         let w = span[i];
         let end = if w == 0 {
-            281474976710657
+            ABOVE_ALL
         } else {
             numbers::less(o, w)
         };
@@ -86,7 +99,7 @@ fn ends(one: &[u64; LANES], span: &[u64; LANES], cap: &[u64; LANES], n: usize, t
         count = std::num::wrapping_add_u64(count, numbers::least(w, 1));
         i += 1;
     }
-    let short: u64 = if n < 16 { 1 } else { 3 };
+    let short: u64 = if n < MANY { 1 } else { 3 };
     Guess {
         lo: lo,
         over: over,
@@ -95,7 +108,7 @@ fn ends(one: &[u64; LANES], span: &[u64; LANES], cap: &[u64; LANES], n: usize, t
         spare: 0,
         next: by_thirds(lo, mean(middles, count), hi, total, over),
         short: numbers::least(short, total / 32 + 1),
-        many: if n < 16 { 8 } else { 32 },
+        many: if n < MANY { 8 } else { 32 },
     }
 }
 
@@ -165,12 +178,12 @@ fn flats_at(one: &[u64; LANES], span: &[u64; LANES], cap: &[u64; LANES], n: usiz
 {
     let mut below: u64 = 0;
     let mut level: u64 = 0;
-    let mut above: u64 = 1125899906842624;
+    let mut above: u64 = FAR;
     let mut i = 0;
     while i < n {
         let o = if span[i] == 1 { one[i] } else { 0 };
         let b = if o < p { o } else { 0 };
-        let a = if p < o { o } else { 1125899906842624 };
+        let a = if p < o { o } else { FAR };
         let k = if o == p { cap[i] } else { 0 };
         below = if below < b { b } else { below };
         above = if a < above { a } else { above };
@@ -276,12 +289,12 @@ pub fn mark(
 // How far a mark must move for so many MWh at a slope.
 fn way(need: u64, slope: u64) -> u64 {
     if slope == 0 {
-        return 1125899906842624;
+        return FAR;
     }
-    if 8388608 < need {
-        return 1125899906842624;
+    if MOST_NEED < need {
+        return FAR;
     }
-    need * 1099511627776 / slope
+    need * WHOLE / slope
 }
 
 // What is known after a mark held no more than the total, and after it held more. The next mark is by the slope.

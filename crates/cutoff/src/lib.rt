@@ -9,6 +9,15 @@ mod guess;
 // How many lines of merit an engine has room for: one for each source today.
 pub const LANES: usize = 32;
 
+// One more than the best merit of all.
+pub const ABOVE_ALL: u64 = 281_474_976_710_657;
+
+// A step's reciprocal is this by the step, and one more.
+pub const WHOLE: u64 = 1_099_511_627_776;
+
+// Rounds at the most.
+const ROUNDS: u64 = 64;
+
 // The MWh at and above a mark, and how fast they grow below it.
 pub struct Offer {
     pub sum: u64,
@@ -27,7 +36,7 @@ pub fn count(one: u64, step: u64, span: u64, inv: u64, p: u64) -> u64
     ensures { λ q. ⌜ q ≡ stock one step span inv p ⌝ }
 {
     let w = numbers::least(span, numbers::less(one, p));
-    let q = w * inv / 1099511627776;
+    let q = w * inv / WHOLE;
     if q * step < w { q + 1 } else { q }
 }
 
@@ -83,11 +92,11 @@ pub fn find_mark(
 {
     let mut g = guess::first(one, span, inv, cap, n, total);
     let mut best = Mark {
-        merit: 281474976710657,
+        merit: ABOVE_ALL,
         sum: 0,
     };
     let mut round: u64 = 0;
-    while round < 64 {
+    while round < ROUNDS {
         if guess::enough(g, total, round) {
             return best;
         }

@@ -1,7 +1,9 @@
 // Two engines with one promise, for unloading (up is false) and credits (up is true): the total is taken of sources with room, the best MWh first.
 // A source enters as a falling line of merit, in three arrays. `plain` takes one MWh at a time; `price` leaves out sources that cannot compete, finds
 // a mark, takes all above it at once, and the rest by blocks. The definitions are in specs/ and in `cutoff`. Internal: they know no hour, and the caller gives lines and room.
+use cutoff::ABOVE_ALL;
 use cutoff::LANES;
+use cutoff::WHOLE;
 ghost use mathlib.Core.Bool.{true, false};
 ghost use mathlib.Core.Path.{_≡_};
 ghost use Prim.Native.Nat.{_+_, _*_, _≤_, _<_, _^_};
@@ -11,6 +13,9 @@ ghost use Rattle.cutoff.specs.Lines.{lanes, at, Falls, Source, Table, Scales};
 ghost use Rattle.dispatch.specs.LinesOfPrices.{Numbers, Lined, linePrice};
 ghost use Rattle.dispatch.specs.Taken.{Sources, Taken, Next, Left, Small, Highest, Turn, Turns, Going, Level, Block, Above};
 ghost use Rattle.dispatch.specs.Rivals.{Bar, Places, Rivals, Gathered, Spread};
+
+// With fewer sources than these leaving some out does not pay.
+const MANY: usize = 12;
 
 // What counts the MWh of a line above a mark.
 struct Shape {
@@ -55,7 +60,7 @@ pub fn credit_top(b: u64, c: u64, r: u64, level: u64, cap: u64) -> u64
     if cap == 0 {
         return 0;
     }
-    281474976710657 - price_at(b, c, r, level + 1)
+    ABOVE_ALL - price_at(b, c, r, level + 1)
 }
 
 // One more than the merit of a source's next MWh; 0 where it has none.
@@ -291,12 +296,12 @@ fn shaped(one: u64, step: u64, cap: u64) -> Shape
     if step == 0 {
         return Shape {
             span: numbers::least(1, cap),
-            inv: numbers::less(cap, 1) * 1099511627776,
+            inv: numbers::less(cap, 1) * WHOLE,
         };
     }
     Shape {
         span: step * cap,
-        inv: 1099511627776 / step + 1,
+        inv: WHOLE / step + 1,
     }
 }
 
@@ -372,7 +377,7 @@ fn bar_of(one: &[u64; LANES], step: &[u64; LANES], cap: &[u64; LANES], n: usize,
     requires { ⌜ Sources (now one) (now step) (now cap) n ⌝ }
     ensures { λ b. ⌜ Bar (now (one .entry)) (now (step .entry)) (now (cap .entry)) n total b ⌝ }
 {
-    if n < 12 {
+    if n < MANY {
         return 0;
     }
     best_last(one, step, cap, n, total)

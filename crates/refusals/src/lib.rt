@@ -4,6 +4,9 @@ ghost use Rattle.rules.specs.Refusals.{numberOf, placeOf};
 ghost use Rattle.refusals.specs.Codes.{codeOf};
 use rules::Refusal;
 
+// Above every place that a refusal of a call has.
+const PLACES: u64 = 4_294_967_296;
+
 pub fn number_of(r: Refusal) -> u64
     ensures { λ n. ⌜ n ≡ numberOf r ⌝ }
 {
@@ -61,5 +64,5 @@ pub fn code_of(r: Refusal) -> u64
 {
     let number = number_of(r);
     let place = place_of(r) as u64;
-    number * 4294967296 + place % 4294967296
+    number * PLACES + place % PLACES
 }
