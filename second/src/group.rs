@@ -28,6 +28,18 @@ pub struct Turn<'a> {
     pub refused: Option<u8>,
 }
 
+impl Turn<'_> {
+    /// The MWh by which room or headroom falls short of the remainder; above 0
+    /// where the group is refused.
+    pub fn short(&self) -> i64 {
+        if self.remainder > 0 {
+            self.remainder - room(&self.opened, Rung::Last)
+        } else {
+            -self.remainder - headroom(&self.opened)
+        }
+    }
+}
+
 pub fn turn<'a>(
     directs: &[Direct],
     group: Group,

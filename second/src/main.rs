@@ -76,7 +76,7 @@ fn with_numbers(
     }
 }
 
-const USAGE: &str = "second report | batch | rewrite | cells | cover | test\n\
+const USAGE: &str = "second report | batch | rewrite | cells | short | cover | test\n\
                      second generate [--stats] SEED COUNT\nsecond telltale FAULT\n\
                      second faults [--all]";
 
@@ -86,6 +86,7 @@ fn run(words: &[&str]) -> io::Result<bool> {
         ["batch"] => batch("report", right_report),
         ["rewrite"] => batch("rewritten", report::rewritten),
         ["cells"] => batch("cells", report::cells_text),
+        ["short"] => batch("short", report::short),
         ["test"] => checks::run(),
         ["faults"] => faults(false),
         ["faults", "--all"] => faults(true),

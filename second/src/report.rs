@@ -1,6 +1,6 @@
 //! The texts the commands print for one deck.
 
-use crate::course::{answer, cells, Answer, Pair};
+use crate::course::{answer, cells, course, Answer, Pair};
 use crate::deck;
 use crate::faults::Fault;
 use crate::hour::*;
@@ -73,4 +73,23 @@ pub fn cells_text(deck: &[u8]) -> Vec<u8> {
         Err(refusal) => refusal.text(),
     };
     text.into_bytes()
+}
+
+/// What the group lacks that meets 12 or 13; nothing for any other deck.
+pub fn short(deck: &[u8]) -> Vec<u8> {
+    let Ok(hour) = deck::read(deck, Fault::None) else {
+        return Vec::new();
+    };
+    let course = course(&hour, Fault::None);
+    let (Some(refusal), Some(turn)) = (course.refused, course.turns.last()) else {
+        return Vec::new();
+    };
+    let Refusal { number, place } = refusal;
+    let mut text = format!("{number} {place} {}", turn.short()).into_bytes();
+    for &member in &turn.group.members {
+        text.push(b' ');
+        text.extend(label::written(&hour.deliveries[member].label));
+    }
+    text.push(b'\n');
+    text
 }

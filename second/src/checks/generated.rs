@@ -7,6 +7,7 @@ use crate::draw::Draw;
 use crate::faults::{named, Fault, ALL};
 use crate::frames::{answer_all, put};
 use crate::generate::{deck, tiny};
+use crate::group::Turn;
 use crate::hour::*;
 use crate::report::{report, rewritten};
 use crate::units::Rung;
@@ -27,6 +28,8 @@ struct Broken {
     bytes: u64,
     averages: u64,
     cells: u64,
+    refused: u64,
+    short: u64,
 }
 
 pub fn run(checks: &mut Checks) {
@@ -45,6 +48,8 @@ pub fn run(checks: &mut Checks) {
         0,
     );
     checks.equal("every cell is within the largest cost", broken.cells, 0);
+    checks.check("hundreds of groups are refused", broken.refused > 200);
+    checks.equal("a group lacks the MWh short, not fewer", broken.short, 0);
     let product = LARGEST_COST * 64_000;
     checks.check(
         "shares of the largest cost fit 64 bits",
@@ -62,6 +67,8 @@ fn examine(deck: &[u8], broken: &mut Broken) {
     broken.bytes += u64::from(rewritten(deck) != deck);
     broken.averages += u64::from(!changed_averages_idle(&hour));
     let Ok(answer) = answer(&hour, Fault::None) else {
+        broken.refused += 1;
+        broken.short += u64::from(!lacks_the_short(&hour));
         return;
     };
     broken.accepted += 1;
@@ -114,6 +121,31 @@ fn changed_averages_idle(hour: &Hour) -> bool {
                 low > state.basic() || state.room(Rung::Last) == state.room(Rung::Emergency)
             })
         })
+}
+
+/// Whether the refused group passes once its remainder is nearer to 0 by the
+/// MWh short, and does not by one MWh fewer.
+fn lacks_the_short(hour: &Hour) -> bool {
+    let course = course(hour, Fault::None);
+    let Some(turn) = course.turns.last() else {
+        return false;
+    };
+    let short = turn.short();
+    let refused_nearer_by = |mwh: i64| refused_with(hour, turn, turn.remainder.signum() * -mwh);
+    short > 0 && refused_nearer_by(short).is_none() && refused_nearer_by(short - 1) == turn.refused
+}
+
+/// What refuses the turn's group where its MWh are others, all of them given
+/// to the first member.
+fn refused_with(hour: &Hour, turn: &Turn, change: i64) -> Option<u8> {
+    let mut hour = hour.clone();
+    for &member in &turn.group.members {
+        hour.deliveries[member].mwh = 0;
+    }
+    hour.deliveries[turn.group.members[0]].mwh = turn.group.total + change;
+    let turns = course(&hour, Fault::None).turns;
+    let same = |other: &&Turn| other.group.internal == turn.group.internal;
+    turns.iter().find(same).and_then(|turn| turn.refused)
 }
 
 fn streams(checks: &mut Checks) {

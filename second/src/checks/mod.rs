@@ -4,6 +4,7 @@ mod deck;
 mod examples;
 mod generated;
 mod reckoning;
+mod short;
 mod told;
 
 use crate::deck::read;
@@ -68,6 +69,7 @@ pub fn run() -> io::Result<bool> {
     examples::run(&mut checks);
     deck::run(&mut checks);
     reckoning::run(&mut checks);
+    short::run(&mut checks);
     generated::run(&mut checks);
     told::run(&mut checks);
     println!("{} passed, {} failed", checks.passed, checks.failed);
