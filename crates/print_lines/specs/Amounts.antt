@@ -1,38 +1,28 @@
--- Signed numbers as they are written and added.
+-- Signed numbers as they are held and written.
 use mathlib.Core.Path.{_≡_, refl, ap, sym, _∙_}
 use mathlib.Core.Bool.{Bool, true, false}
 use mathlib.Core.List.{List, [], _∷_, _++_}
-use Prim.Native.Nat.{ℕ, zero, suc, _+_, _≤_}
-use native.Mathlib.Decide.{decLt}
+use Prim.Native.Nat.{ℕ, zero, suc, _+_}
 use native.Mathlib.Omega.{arith}
 use lib.Dec.{T}
 use lib.ListN.{length, length-append}
-use borrow.Author.Tests.{lt-ltb, le-ltb, ltb-true}
-use lib.IntN.{ℤ, pos, negsuc, natAbs, negℤ, subℕ, _+ℤ_, _-ℤ_, +ℤ-one, +ℤ-idl, negℤ-negℤ}
+use borrow.Author.Tests.{ltb-true}
+use lib.IntN.{ℤ, pos, negsuc, natAbs, negℤ, _+ℤ_, _-ℤ_, +ℤ-one, +ℤ-idl, negℤ-negℤ}
 use lib.Signed.{ltZ, nonNeg}
 use mir.Facts.{toZ-ofZ, sfits-lit}
 use mir.Syntax.{w64}
 use mir.Val.{Fits, SFits, toZ, ofZ}
 use Rattle.laws.specs.Choices.{true-not-false}
-use Rattle.balance.specs.CellsFit.{SmallCell}
 use Rattle.rules.specs.Fields.{digits}
 use Rattle.write_fields.specs.Texts.{numberText}
-use Rattle.print_lines.specs.Lines.{signedSpaced, tailText, lineText, openText}
+use Rattle.print_lines.specs.Lines.{signedSpaced}
 
 -- a signed number as the machine holds it
 abbrev pub held : ℤ → ℤ
 held z = toZ w64 (ofZ w64 z)
 
--- lines of amounts as the machine holds them
-
-pub tail-held : {x y z : ℤ} → SFits w64 x → SFits w64 y → SFits w64 z → (rest : List ℕ) → tailText (held x) (held y) (held z) rest ≡ tailText x y z rest
-tail-held a b c rest = rw (toZ-ofZ a, toZ-ofZ b, toZ-ofZ c)
-
-pub line-held : (head s : List ℕ) {x y z : ℤ} → SFits w64 x → SFits w64 y → SFits w64 z → (rest : List ℕ) → lineText head s (held x) (held y) (held z) rest ≡ lineText head s x y z rest
-line-held head s a b c rest = ap (λ (w : List ℕ). head ++ (s ++ w)) (tail-held a b c rest)
-
-pub open-held : (s : List ℕ) {x y : ℤ} → SFits w64 x → SFits w64 y → (rest : List ℕ) → openText s (held x) (held y) rest ≡ openText s x y rest
-open-held s a b rest = rw (toZ-ofZ a, toZ-ofZ b)
+pub signed-held : (z : ℤ) → SFits w64 z → (rest : List ℕ) → signedSpaced (held z) rest ≡ signedSpaced z rest
+signed-held z h rest = ap (λ (y : ℤ). signedSpaced y rest) (toZ-ofZ h)
 
 -- a number whose bits are 0
 pub zero-held : (v : ℤ) → SFits w64 v → ofZ w64 v ≡ 0 → v ≡ pos 0
@@ -107,35 +97,3 @@ module _ (v : ℤ) (n k : ℕ) (h : SFits w64 v) (e : n ≡ natAbs (held v)) (d 
 
   pub plus-length : ltZ (held v) (pos 0) ≡ false → k + 1 ≡ length (signedSpaced v [])
   plus-length b = omega (arith, ap length (plus-text v n h b e []), length-append (digits n) [])
-
--- The sum of two cells.
-
-sub-most : (a b n : ℕ) → a ≤ n → b ≤ n → natAbs (subℕ a b) ≤ n
-sub-most a b n h k = elim (decLt a b) [
-  | yes l ↦ rw (lt-ltb a b l) (omega arith)
-  | no l ↦ rw (le-ltb a b (omega arith)) (omega arith)
-]
-
-pub sum-most : (x y : ℤ) → SmallCell x → SmallCell y → natAbs (x +ℤ y) ≤ 200_000_000_000_000
-sum-most (pos a) (pos b) h k = omega arith
-sum-most (pos a) (negsuc b) h k = sub-most a (suc b) 200_000_000_000_000 (omega arith) (omega arith)
-sum-most (negsuc a) (pos b) h k = sub-most b (suc a) 200_000_000_000_000 (omega arith) (omega arith)
-sum-most (negsuc a) (negsuc b) h k = omega arith
-
-pub fits-below : (z : ℤ) → natAbs z ≤ 200_000_000_000_000 → SFits w64 z
-fits-below (pos n) h = record { sfits = omega arith }
-fits-below (negsuc n) h = record { sfits = omega arith }
-
-pub sum-fits : (x y : ℤ) → SmallCell x → SmallCell y → SFits w64 (x +ℤ y)
-sum-fits x y h k = fits-below (x +ℤ y) (sum-most x y h k)
-
--- the sum as the machine makes it
-module _ (x y : ℤ) (a : SFits w64 x) (b : SFits w64 y) where
-  pub same-sum : held x +ℤ held y ≡ x +ℤ y
-  same-sum = ap (λ (z : ℤ). z +ℤ held y) (toZ-ofZ a) ∙ ap (λ (z : ℤ). x +ℤ z) (toZ-ofZ b)
-
-  pub held-fits : SmallCell x → SmallCell y → SFits w64 (held x +ℤ held y)
-  held-fits h k = rw same-sum (sum-fits x y h k)
-
-  pub held-sum : SmallCell x → SmallCell y → held (held x +ℤ held y) ≡ x +ℤ y
-  held-sum h k = toZ-ofZ (held-fits h k) ∙ same-sum

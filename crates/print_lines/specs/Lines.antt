@@ -1,19 +1,20 @@
 -- The report's lines as what is written one after another.
 use mathlib.Core.Path.{_≡_, refl, ap, sym, _∙_}
 use mathlib.Core.List.{List, [], _∷_, _++_, append-assoc}
-use Prim.Native.Nat.{ℕ, _+_}
+use Prim.Native.Nat.{ℕ, _+_, _<_}
 use native.Mathlib.Omega.{arith}
-use lib.ListN.{length, length-append}
+use lib.ListN.{length, getD, length-append}
 use lib.IntN.{ℤ, pos}
 use Rattle.rules.specs.Words.{text}
 use Rattle.rules.specs.Refusals.{numberOf, placeOf}
 use Rattle.rules.specs.Fields as fields
 use Rattle.rules.specs.Fields.{digits, escape, Chars}
 use Rattle.rules.specs.Report as report
-use Rattle.rules.specs.Report.{ReportLine, hour, pair, internal, end, refusal, signedText, labelText, _␣_, reportText}
+use Rattle.rules.specs.Report.{ReportLine, hour, pair, internal, end, refusal, signedText, labelText, _␣_, amountsText, reportText}
 use Rattle.rules.specs.declared.InternalSequence.{InternalSequence}
 use Rattle.rules.specs.declared.Refusal.{Refusal}
-use Rattle.write_fields.specs.Inked.{Text, Front, front-byte, front-list, front-then}
+use Rattle.write_fields.specs.Inked as inked
+use Rattle.write_fields.specs.Inked.{Text, Front, front-byte, front-list, front-then, upTo, upTo-same, upTo-first, front-upTo}
 use Rattle.write_fields.specs.Texts.{spacedText, front-spaced}
 
 -- a label's own bytes between quotes
@@ -24,27 +25,35 @@ partText w rest = 34 ∷ w ++ (34 ∷ rest)
 abbrev pub signedSpaced : ℤ → Text
 signedSpaced z rest = 32 ∷ signedText z ++ rest
 
--- a pair's amounts and LF
-abbrev pub amountsText : ℤ → ℤ → ℤ → Text
-amountsText x y z rest = signedSpaced x (signedSpaced y (signedSpaced z (10 ∷ rest)))
+-- the amount at an index of a list, after its space; and all of them
+abbrev pub amountAt : List ℤ → ℕ → Text
+amountAt zs i = signedSpaced (getD zs i (pos 0))
 
--- a pair's line before the source's label, which all lines of a delivery share, and after it
+abbrev pub spacedAmounts : List ℤ → Text
+spacedAmounts zs = upTo (amountAt zs) (length zs)
+
+-- n amounts of 0
+abbrev pub zerosText : ℕ → Text
+zerosText n = upTo (λ i rest. 32 ∷ 48 ∷ rest) n
+
+-- each amount is 0
+abbrev pub AllZero : List ℤ → Type 0
+AllZero zs = (k : ℕ) → k < length zs → getD zs k (pos 0) ≡ pos 0
+
+-- what comes after a source's label: its quote, the amounts and LF
+abbrev pub tailText : List ℤ → Text
+tailText zs rest = 34 ∷ spacedAmounts zs (10 ∷ rest)
+
+-- a line of a head's bytes, which stand before the source's label, of the label's own bytes and of amounts
+abbrev pub lineText : List ℕ → List ℕ → List ℤ → Text
+lineText head s zs rest = head ++ (s ++ tailText zs rest)
+
+-- the head that all pairs of a delivery share, and that of a source's open line
 abbrev pub headText : List ℕ → InternalSequence → Text
 headText d n rest = partText d (spacedText (n .0) (32 ∷ 34 ∷ rest))
 
-abbrev pub tailText : ℤ → ℤ → ℤ → Text
-tailText x y z rest = 34 ∷ amountsText x y z rest
-
--- a pair's line of a head's bytes and the source's
-abbrev pub lineText : List ℕ → List ℕ → ℤ → ℤ → ℤ → Text
-lineText head s x y z rest = head ++ (s ++ tailText x y z rest)
-
--- a pair's line, and a source's open line, of labels' own bytes
-abbrev pub pairText : List ℕ → InternalSequence → List ℕ → ℤ → ℤ → ℤ → Text
-pairText d n s x y z rest = partText d (spacedText (n .0) (32 ∷ partText s (amountsText x y z rest)))
-
-abbrev pub openText : List ℕ → ℤ → ℤ → Text
-openText s x y rest = text "internal " ++ partText s (signedSpaced x (signedSpaced y (10 ∷ rest)))
+abbrev pub openText : List ℕ → List ℤ → Text
+openText s zs = lineText (text "internal \"") s zs
 
 -- a line with its LF
 abbrev pub printed : ReportLine → Text
@@ -58,14 +67,14 @@ front-part w = front-then (front-list (34 ∷ w)) (front-byte 34)
 pub front-signed : (z : ℤ) → Front (signedSpaced z)
 front-signed z = front-list (32 ∷ signedText z)
 
-pub front-tail : (x y z : ℤ) → Front (tailText x y z)
-front-tail x y z = front-then (front-byte 34) (front-then (front-signed x) (front-then (front-signed y) (front-then (front-signed z) (front-byte 10))))
+pub front-amounts : (zs : List ℤ) → Front (spacedAmounts zs)
+front-amounts zs = front-upTo (amountAt zs) (λ i. front-signed (getD zs i (pos 0))) (length zs)
 
-pub front-line : (head s : List ℕ) (x y z : ℤ) → Front (lineText head s x y z)
-front-line head s x y z = front-then (front-list head) (front-then (front-list s) (front-tail x y z))
+pub front-tail : (zs : List ℤ) → Front (tailText zs)
+front-tail zs = front-then (front-byte 34) (front-then (front-amounts zs) (front-byte 10))
 
-pub front-open : (s : List ℕ) (x y : ℤ) → Front (openText s x y)
-front-open s x y = front-then (front-list (text "internal ")) (front-then (front-part s) (front-then (front-signed x) (front-then (front-signed y) (front-byte 10))))
+pub front-line : (head s : List ℕ) (zs : List ℤ) → Front (lineText head s zs)
+front-line head s zs = front-then (front-list head) (front-then (front-list s) (front-tail zs))
 
 pub front-printed : (l : ReportLine) → Front (printed l)
 front-printed l = front-then (front-list (reportText l)) (front-byte 10)
@@ -73,39 +82,52 @@ front-printed l = front-then (front-list (reportText l)) (front-byte 10)
 -- The lines.
 
 -- a head's bytes before what comes after them
-pub line-pair : (d : List ℕ) (n : InternalSequence) (s : List ℕ) (x y z : ℤ) (rest : List ℕ) → lineText (headText d n []) s x y z rest ≡ pairText d n s x y z rest
-line-pair d n s x y z rest =
-    let w = s ++ tailText x y z rest in
+head-then : (d : List ℕ) (n : InternalSequence) (w : List ℕ) → headText d n [] ++ w ≡ headText d n w
+head-then d n w =
     ap (λ (l : List ℕ). 34 ∷ l) (append-assoc d (34 ∷ 32 ∷ digits (n .0) ++ (32 ∷ 34 ∷ [])) w)
     ∙ ap (λ (l : List ℕ). partText d (32 ∷ l)) (append-assoc (digits (n .0)) (32 ∷ 34 ∷ []) w)
 
--- three amounts of 0
-pub tail-zeros : (x y z : ℤ) → x ≡ pos 0 → y ≡ pos 0 → z ≡ pos 0 → (rest : List ℕ) → text "\" 0 0 0\n" ++ rest ≡ tailText x y z rest
+-- amounts one by one
+amounts-then : (zs : List ℤ) (rest : List ℕ) → amountsText zs ++ rest ≡ spacedAmounts zs rest
+unfolding report.amountsText inked.upTo
+amounts-then [] rest = refl
+amounts-then (z ∷ zs) rest =
+    ap (λ (w : List ℕ). 32 ∷ w) (append-assoc (signedText z) (amountsText zs) rest) ∙ ap (signedSpaced z) (amounts-then zs rest)
+    ∙ sym (upTo-first (amountAt (z ∷ zs)) (length zs) rest)
+
+-- amounts of 0
+pub amounts-zero : (zs : List ℤ) → AllZero zs → (rest : List ℕ) → zerosText (length zs) rest ≡ spacedAmounts zs rest
 unfolding fields.digits fields.digitsIn
-tail-zeros x y z a b c rest = rw (a, b, c)
+amounts-zero zs zero = upTo-same (λ i rest. 32 ∷ 48 ∷ rest) (amountAt zs) (length zs) (λ i l rest. rw (zero i l))
 
 -- what comes after a space, said another way
 spaced-then : (x y z rest : List ℕ) → y ++ rest ≡ z → (x ␣ y) ++ rest ≡ x ++ (32 ∷ z)
 spaced-then x y z rest e = append-assoc x (32 ∷ y) rest ∙ ap (λ (w : List ℕ). x ++ (32 ∷ w)) e
 
+label-last : (cs : Chars) (y z rest : List ℕ) → y ++ rest ≡ z → (labelText cs ++ y) ++ rest ≡ partText (escape cs) z
+label-last cs y z rest e =
+    append-assoc (labelText cs) y rest ∙ ap (λ (w : List ℕ). labelText cs ++ w) e ∙ ap (λ (w : List ℕ). 34 ∷ w) (append-assoc (escape cs) (34 ∷ []) z)
+
 label-then : (cs : Chars) (y z rest : List ℕ) → y ++ rest ≡ z → (labelText cs ␣ y) ++ rest ≡ partText (escape cs) (32 ∷ z)
-label-then cs y z rest e = spaced-then (labelText cs) y z rest e ∙ ap (λ (w : List ℕ). 34 ∷ w) (append-assoc (escape cs) (34 ∷ []) (32 ∷ z))
+label-then cs y z rest e = label-last cs (32 ∷ y) (32 ∷ z) rest (ap (λ (w : List ℕ). 32 ∷ w) e)
 
 pub hour-line : (g l d x : ℕ) (rest : List ℕ) → text "hour" ++ spacedText g (spacedText l (spacedText d (spacedText x (10 ∷ rest)))) ≡ printed (hour g l d x) rest
 unfolding report.reportText
 hour-line g l d x rest =
     sym (ap (λ (w : List ℕ). text "hour" ++ (32 ∷ w)) (spaced-then (digits g) _ _ (10 ∷ rest) (spaced-then (digits l) _ _ (10 ∷ rest) (spaced-then (digits d) (digits x) _ (10 ∷ rest) refl))))
 
-pub pair-line : (d : Chars) (n : InternalSequence) (s : Chars) (x y z : ℤ) (rest : List ℕ) → pairText (escape d) n (escape s) x y z rest ≡ printed (pair d n s x y z) rest
+pub pair-line : (d : Chars) (n : InternalSequence) (s : Chars) (zs : List ℤ) (rest : List ℕ) → lineText (headText (escape d) n []) (escape s) zs rest ≡ printed (pair d n s zs) rest
 unfolding report.reportText
-pair-line d n s x y z rest =
-    sym (label-then d _ _ (10 ∷ rest) (spaced-then (digits (n .0)) _ _ (10 ∷ rest) (label-then s _ _ (10 ∷ rest)
-    (spaced-then (signedText x) _ _ (10 ∷ rest) (spaced-then (signedText y) (signedText z) _ (10 ∷ rest) refl)))))
+pair-line d n s zs rest =
+    let end : List ℕ = 10 ∷ rest in
+    head-then (escape d) n (escape s ++ tailText zs rest)
+    ∙ sym (label-then d _ _ end (spaced-then (digits (n .0)) _ _ end (label-last s (amountsText zs) _ end (amounts-then zs end))))
 
-pub open-line : (s : Chars) (v w : ℕ) (rest : List ℕ) → openText (escape s) (pos v) (pos w) rest ≡ printed (internal s v w) rest
+pub open-line : (s : Chars) (zs : List ℤ) (rest : List ℕ) → openText (escape s) zs rest ≡ printed (internal s zs) rest
 unfolding report.reportText
-open-line s v w rest =
-    sym (ap (λ (w : List ℕ). text "internal " ++ w) (label-then s _ _ (10 ∷ rest) (spaced-then (digits v) (digits w) _ (10 ∷ rest) refl)))
+open-line s zs rest =
+    let end : List ℕ = 10 ∷ rest in
+    sym (ap (λ (w : List ℕ). text "internal " ++ w) (label-last s (amountsText zs) _ end (amounts-then zs end)))
 
 pub end-line : (rest : List ℕ) → text "end\n" ++ rest ≡ printed end rest
 unfolding report.reportText
@@ -124,18 +146,8 @@ refusal-of r n p e f rest = rw (e, f) (refusal-line (numberOf r) (placeOf r) res
 pub spaced-length : (v : ℕ) → length (spacedText v []) ≡ length (digits v) + 1
 spaced-length v = omega (arith, length-append (digits v) [])
 
-pub tail-length : (x y z : ℤ) → length (tailText x y z []) ≡ length (signedSpaced x []) + length (signedSpaced y []) + length (signedSpaced z []) + 2
-tail-length x y z =
-    let last = signedSpaced z (10 ∷ []) in
-    omega (arith, front-signed x .longer (signedSpaced y last), front-signed y .longer last, front-signed z .longer (10 ∷ []))
-
-pub line-length : (head s : List ℕ) (x y z : ℤ) → length (lineText head s x y z []) ≡ length head + length s + length (tailText x y z [])
-line-length head s x y z = omega (arith, length-append head (s ++ tailText x y z []), length-append s (tailText x y z []))
-
-pub open-length : (s : List ℕ) (x y : ℤ) → length (openText s x y []) ≡ length (signedSpaced x []) + length (signedSpaced y []) + length s + 12
-open-length s x y =
-    let last = signedSpaced y (10 ∷ []) in
-    omega (arith, length-append s (34 ∷ signedSpaced x last), front-signed x .longer last, front-signed y .longer (10 ∷ []))
+pub line-length : (head s : List ℕ) (zs : List ℤ) → length (lineText head s zs []) ≡ length head + length s + length (spacedAmounts zs []) + 2
+line-length head s zs = omega (arith, length-append head (s ++ tailText zs []), length-append s (tailText zs []), front-amounts zs .longer (10 ∷ []))
 
 pub hour-length : (g l d x : ℕ) → length (printed (hour g l d x) []) ≡ length (spacedText g []) + length (spacedText l []) + length (spacedText d []) + length (spacedText x []) + 5
 hour-length g l d x =

@@ -4,14 +4,13 @@ ghost use mathlib.Core.Path.{_≡_};
 ghost use mathlib.Core.List.{[]};
 ghost use mathlib.Core.Bool.{true};
 ghost use Prim.Native.Nat.{_+_, _-_, _^_, _≤_, _<_};
-ghost use lib.IntN.{pos, natAbs, _+ℤ_};
+ghost use lib.IntN.{natAbs};
 ghost use lib.ListN.{length};
 ghost use Rattle.rules.specs.Refusals.{numberOf, placeOf};
 ghost use Rattle.rules.specs.Report.{hour, end, refusal};
-ghost use Rattle.balance.specs.CellsFit.{SmallCell};
 ghost use Rattle.write_fields.specs.Inked.{Room, Inked};
 ghost use Rattle.write_fields.specs.Texts.{spacedText};
-ghost use Rattle.print_lines.specs.Lines.{partText, signedSpaced, tailText, headText, lineText, openText, printed};
+ghost use Rattle.print_lines.specs.Lines.{partText, signedSpaced, spacedAmounts, zerosText, AllZero, tailText, headText, lineText, openText, printed};
 use rules::InternalSequence;
 use rules::Refusal;
 
@@ -57,35 +56,62 @@ fn put_part(buf: &mut [u8], at: usize, part: &[u8]) -> usize
     write_fields::put_byte(buf, q, b'"')
 }
 
-// Whether a pair's amounts are all 0, as most are.
-fn are_zero(direct: i64, incremental: i64, cost: i64) -> bool
-    ensures { λ r. ⌜ (r ≡ true → (direct ≡ pos 0) × (incremental ≡ pos 0) × (cost ≡ pos 0)) ⌝ }
+// Whether all amounts are 0, as most pairs' are.
+fn are_zero(amounts: &[i64]) -> bool
+    ensures { λ r. ⌜ (r ≡ true → AllZero (now (amounts .entry))) ⌝ }
 {
-    if direct != 0 {
-        return false;
+    let mut i = 0;
+    while i < amounts.len() {
+        if amounts[i] != 0 {
+            return false;
+        }
+        i += 1;
     }
-    if incremental != 0 {
-        return false;
-    }
-    cost == 0
+    true
 }
 
-// What comes after the source's label in a pair's line: its quote, the amounts and LF.
-fn put_tail(buf: &mut [u8], at: usize, direct: i64, incremental: i64, cost: i64) -> usize
-    requires { ⌜ Room (now buf) at (tailText direct incremental cost []) ⌝ }
-    ensures { λ r. ⌜ Inked (now (buf .entry)) at (now (buf .exit)) r (tailText direct incremental cost) ⌝ }
+// n amounts of 0, each after a space.
+fn put_zeros(buf: &mut [u8], at: usize, n: usize) -> usize
+    requires { ⌜ Room (now buf) at (zerosText n []) ⌝ }
+    ensures { λ r. ⌜ Inked (now (buf .entry)) at (now (buf .exit)) r (zerosText n) ⌝ }
 {
-    if are_zero(direct, incremental, cost) {
-        return write_fields::put_bytes(buf, at, b"\" 0 0 0\n");
+    let mut p = at;
+    let mut i = 0;
+    while i < n {
+        p = write_fields::put_two(buf, p, b' ', b'0');
+        i += 1;
     }
+    p
+}
+
+// Amounts, each after a space.
+fn put_amounts(buf: &mut [u8], at: usize, amounts: &[i64]) -> usize
+    requires { ⌜ Room (now buf) at (spacedAmounts (now amounts) []) ⌝ }
+    ensures { λ r. ⌜ Inked (now (buf .entry)) at (now (buf .exit)) r (spacedAmounts (now (amounts .entry))) ⌝ }
+{
+    if are_zero(amounts) {
+        return put_zeros(buf, at, amounts.len());
+    }
+    let mut p = at;
+    let mut i = 0;
+    while i < amounts.len() {
+        p = put_signed(buf, p, amounts[i]);
+        i += 1;
+    }
+    p
+}
+
+// What comes after a source's label: its quote, the amounts and LF.
+fn put_tail(buf: &mut [u8], at: usize, amounts: &[i64]) -> usize
+    requires { ⌜ Room (now buf) at (tailText (now amounts) []) ⌝ }
+    ensures { λ r. ⌜ Inked (now (buf .entry)) at (now (buf .exit)) r (tailText (now (amounts .entry))) ⌝ }
+{
     let p = write_fields::put_byte(buf, at, b'"');
-    let q = put_signed(buf, p, direct);
-    let r = put_signed(buf, q, incremental);
-    let s = put_signed(buf, r, cost);
-    write_fields::put_byte(buf, s, b'\n')
+    let q = put_amounts(buf, p, amounts);
+    write_fields::put_byte(buf, q, b'\n')
 }
 
-// What comes before the source's label in each line of a delivery: its label, its number and the source's quote.
+// The head that all pairs of a delivery share: its label, its number and the source's quote.
 pub fn put_head(buf: &mut [u8], at: usize, delivery: &[u8], number: InternalSequence) -> usize
     requires { ⌜ Room (now buf) at (headText (now delivery) number []) ⌝ }
     ensures { λ r. ⌜ Inked (now (buf .entry)) at (now (buf .exit)) r (headText (now (delivery .entry)) number) ⌝ }
@@ -95,33 +121,22 @@ pub fn put_head(buf: &mut [u8], at: usize, delivery: &[u8], number: InternalSequ
     write_fields::put_two(buf, q, b' ', b'"')
 }
 
-// A pair's line after its head.
-pub fn put_pair(
-    buf: &mut [u8],
-    at: usize,
-    head: &[u8],
-    source: &[u8],
-    direct: i64,
-    incremental: i64,
-    cost: i64,
-) -> usize
-    requires { ⌜ Room (now buf) at (lineText (now head) (now source) direct incremental cost []) ⌝ }
-    ensures { λ r. ⌜ Inked (now (buf .entry)) at (now (buf .exit)) r (lineText (now (head .entry)) (now (source .entry)) direct incremental cost) ⌝ }
+// A line of a head, a source's label and amounts.
+pub fn put_line(buf: &mut [u8], at: usize, head: &[u8], source: &[u8], amounts: &[i64]) -> usize
+    requires { ⌜ Room (now buf) at (lineText (now head) (now source) (now amounts) []) ⌝ }
+    ensures { λ r. ⌜ Inked (now (buf .entry)) at (now (buf .exit)) r (lineText (now (head .entry)) (now (source .entry)) (now (amounts .entry))) ⌝ }
 {
     let p = write_fields::put_bytes(buf, at, head);
     let q = write_fields::put_bytes(buf, p, source);
-    put_tail(buf, q, direct, incremental, cost)
+    put_tail(buf, q, amounts)
 }
 
-pub fn put_open(buf: &mut [u8], at: usize, source: &[u8], mwh: i64, cost: i64) -> usize
-    requires { ⌜ Room (now buf) at (openText (now source) mwh cost []) ⌝ }
-    ensures { λ r. ⌜ Inked (now (buf .entry)) at (now (buf .exit)) r (openText (now (source .entry)) mwh cost) ⌝ }
+// What a source has left.
+pub fn put_open(buf: &mut [u8], at: usize, source: &[u8], amounts: &[i64]) -> usize
+    requires { ⌜ Room (now buf) at (openText (now source) (now amounts) []) ⌝ }
+    ensures { λ r. ⌜ Inked (now (buf .entry)) at (now (buf .exit)) r (openText (now (source .entry)) (now (amounts .entry))) ⌝ }
 {
-    let p = write_fields::put_bytes(buf, at, b"internal ");
-    let q = put_part(buf, p, source);
-    let r = put_signed(buf, q, mwh);
-    let s = put_signed(buf, r, cost);
-    write_fields::put_byte(buf, s, b'\n')
+    put_line(buf, at, b"internal \"", source, amounts)
 }
 
 // The header; the internal load is what is left of the generation.
@@ -157,14 +172,6 @@ pub fn put_refusal(buf: &mut [u8], at: usize, x: Refusal) -> usize
     write_fields::put_byte(buf, r, b'\n')
 }
 
-// A pair's costs in one sum.
-pub fn both_costs(direct: i64, incremental: i64) -> i64
-    requires { ⌜ SmallCell direct × SmallCell incremental ⌝ }
-    ensures { λ r. ⌜ r ≡ direct +ℤ incremental ⌝ }
-{
-    direct + incremental
-}
-
 // Lengths: of each text above, as many bytes as it has.
 
 fn signed_length(v: i64) -> usize
@@ -183,24 +190,31 @@ fn spaced_length(v: u64) -> usize
     write_fields::count_digits(v) + 1
 }
 
-fn tail_length(direct: i64, incremental: i64, cost: i64) -> usize
-    ensures { λ r. ⌜ r ≡ length (tailText direct incremental cost []) ⌝ }
+fn amounts_length(amounts: &[i64]) -> usize
+    requires { ⌜ length (spacedAmounts (now amounts) []) < 2 ^ 64 ⌝ }
+    ensures { λ r. ⌜ r ≡ length (spacedAmounts (now (amounts .entry)) []) ⌝ }
 {
-    signed_length(direct) + signed_length(incremental) + signed_length(cost) + 2
+    let mut size: usize = 0;
+    let mut i = 0;
+    while i < amounts.len() {
+        size += signed_length(amounts[i]);
+        i += 1;
+    }
+    size
 }
 
-pub fn pair_length(head: &[u8], source: &[u8], direct: i64, incremental: i64, cost: i64) -> usize
-    requires { ⌜ length (lineText (now head) (now source) direct incremental cost []) < 2 ^ 64 ⌝ }
-    ensures { λ r. ⌜ r ≡ length (lineText (now (head .entry)) (now (source .entry)) direct incremental cost []) ⌝ }
+pub fn line_length(head: &[u8], source: &[u8], amounts: &[i64]) -> usize
+    requires { ⌜ length (lineText (now head) (now source) (now amounts) []) < 2 ^ 64 ⌝ }
+    ensures { λ r. ⌜ r ≡ length (lineText (now (head .entry)) (now (source .entry)) (now (amounts .entry)) []) ⌝ }
 {
-    head.len() + source.len() + tail_length(direct, incremental, cost)
+    head.len() + source.len() + amounts_length(amounts) + 2
 }
 
-pub fn open_length(source: &[u8], mwh: i64, cost: i64) -> usize
-    requires { ⌜ length (openText (now source) mwh cost []) < 2 ^ 64 ⌝ }
-    ensures { λ r. ⌜ r ≡ length (openText (now (source .entry)) mwh cost []) ⌝ }
+pub fn open_length(source: &[u8], amounts: &[i64]) -> usize
+    requires { ⌜ length (openText (now source) (now amounts) []) < 2 ^ 64 ⌝ }
+    ensures { λ r. ⌜ r ≡ length (openText (now (source .entry)) (now (amounts .entry)) []) ⌝ }
 {
-    signed_length(mwh) + signed_length(cost) + source.len() + 12
+    line_length(b"internal \"", source, amounts)
 }
 
 pub fn header_length(generation: u64, losses: u64, deliveries: u64) -> usize

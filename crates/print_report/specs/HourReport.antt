@@ -9,9 +9,8 @@ use Rattle.rules.specs.Report as report
 use Rattle.rules.specs.Report.{ReportLine, end, headerLine, pairLine, openLine, hourLines, reportTexts}
 use Rattle.rules.specs.declared.Hour.{Hour}
 use Rattle.write_fields.specs.Inked as inked
-use Rattle.write_fields.specs.Inked.{Text, upTo}
+use Rattle.write_fields.specs.Inked.{Text, upTo, upTo-same}
 use Rattle.print_lines.specs.Lines.{printed}
-use Rattle.print_report.specs.Rows.{upTo-same}
 
 -- Lines before any rest.
 

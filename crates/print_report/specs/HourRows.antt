@@ -1,36 +1,39 @@
 -- What the writer of an hour's report is given, and that the rows it writes are the report.
-use mathlib.Core.Path.{_≡_, ap, _∙_}
+use mathlib.Core.Path.{_≡_, ap, _∙_, fun-ext}
 use mathlib.Core.Bool.{true}
 use mathlib.Core.List.{List, [], _++_}
 use Prim.Native.Nat.{ℕ, _+_, _-_, _*_, _≤_, _<_}
-use native.Mathlib.Nat.{mul-le-mul}
 use native.Mathlib.Omega.{arith}
-use lib.IntN.{ℤ, pos, _+ℤ_}
+use lib.IntN.{ℤ, pos}
 use lib.ListN.{length, getD, drop, length-append, List·getD-append}
 use borrow.Author.Tests.{lt-ltb}
+use Rattle.rules.specs.Words.{text}
 use Rattle.rules.specs.Refusals.{accepted}
-use Rattle.rules.specs.Group.{noRunning, openCost, directMwh, incrementalMwh, directCost, incrementalCost}
+use Rattle.rules.specs.Group.{noRunning, openAmount}
 use Rattle.rules.specs.Fields.{escape}
 use Rattle.rules.specs.Record.{chars, sourceAt, deliveryAt}
 use Rattle.rules.specs.Hour as hours
-use Rattle.rules.specs.Hour.{pairWidth, openWidth, keys, keyAt, Progress, reconstructed, pairCells, openCells, cellsOf, cellCount, answer}
+use Rattle.rules.specs.Hour.{pairWidth, openWidth, keys, keyAt, Progress, reconstructed, cellsOf, cellCount, answer}
 use Rattle.rules.specs.Reading.{generated, delivered, reading}
 use Rattle.rules.specs.Report as reports
-use Rattle.rules.specs.Report.{hour, end, headerLine, pairLine, openLine, report}
+use Rattle.rules.specs.Report.{hour, end, headerLine, pairAmounts, openAmounts, pairLine, openLine, report}
 use Rattle.rules.specs.Writing.{valid}
 use Rattle.rules.specs.declared.Hour.{Hour}
 use Rattle.rules.specs.declared.InternalSequence.{InternalSequence}
 use Rattle.rules.specs.declared.Key.{Key}
 use Rattle.roundtrip.specs.DeckRoundTrip.{accepted-is-valid}
 use Rattle.roundtrip.specs.GivenHour.{GivenHour, accepted-given}
-use Rattle.balance.specs.AnswerCells.{cellAt, pairPlace, openPlace, pair-at, open-at, cells-length}
+use Rattle.balance.specs.Accounts.{itemPlace, openItemPlace, item-within, open-item-within}
+use Rattle.balance.specs.AnswerCells.{cellAt, pairPlace, openPlace, pair-cell, open-cell, cells-length}
+use Rattle.balance.specs.CellsAreFew.{cells-few}
 use Rattle.balance.specs.CellsFit.{SmallCell, answer-small}
 use Rattle.balance.specs.ValidHour.{valid-balances, valid-small}
 use Rattle.deck.specs.Answers.{Scanned}
 use Rattle.deck.specs.declared.ScannedDeck.{ScannedDeck}
-use Rattle.write_fields.specs.Inked.{Text, Room, Inked, Front, inked-place, inked-first, upTo, front-upTo}
-use Rattle.print_lines.specs.Lines.{pairText, openText, printed, line-pair, pair-line, open-line, front-printed}
-use Rattle.print_report.specs.Rows.{Held, ShortLabels, SmallFirst, partAt, headAt, pairAt, rowAt, openAt, front-row-at, front-opens, row-within, upTo-same}
+use Rattle.write_fields.specs.Inked.{Text, Room, Inked, Front, inked-place, inked-first, upTo, upTo-same, front-upTo}
+use Rattle.print_lines.specs.Lines.{headText, lineText, printed, pair-line, open-line, front-printed}
+use Rattle.print_report.specs.LineAmounts.{SmallFirst, pairFrom, openFrom}
+use Rattle.print_report.specs.Rows.{Held, ShortLabels, partAt, headAt, pairAt, rowAt, openAt, front-row-at, front-opens, line-same, row-within}
 use Rattle.print_report.specs.LabelsShort.{labels-short}
 use Rattle.print_report.specs.HourReport.{pairsText, opensText, hourText, hour-lines}
 
@@ -79,12 +82,9 @@ front-left deck x cells = front-opens deck (x .sources) cells (x .hour .ndeliver
 pub header-same : (h : Hour) (g d : ℕ) → g ≡ generated h → d ≡ delivered h → (rest : List ℕ) → printed (hour g (h .losses) d (g - (h .losses + d))) rest ≡ printed (headerLine h) rest
 header-same h g d e f rest = rw (e, f)
 
--- a line of what is the same
-pair-same : {d e : List ℕ} {m n : InternalSequence} {s t : List ℕ} {x u y v z w : ℤ} → d ≡ e → m ≡ n → s ≡ t → x ≡ u → y ≡ v → z ≡ w → (rest : List ℕ) → pairText d m s x y z rest ≡ pairText e n t u v w rest
-pair-same a b c d e f rest = rw (a, b, c, d, e, f)
-
-open-same : {s t : List ℕ} {x u y v : ℤ} → s ≡ t → x ≡ u → y ≡ v → (rest : List ℕ) → openText s x y rest ≡ openText t u v rest
-open-same a b c rest = rw (a, b, c)
+-- a pair's line of what is the same
+pair-same : {d e : List ℕ} {m n : InternalSequence} {s t : List ℕ} {ys zs : List ℤ} → d ≡ e → m ≡ n → s ≡ t → ys ≡ zs → (rest : List ℕ) → lineText (headText d m []) s ys rest ≡ lineText (headText e n []) t zs rest
+pair-same a b c d rest = rw (a, b, c, d)
 
 module _ {deck : List ℕ} {x : ScannedDeck} {ks : List Key} {cells : List ℤ} (a : Answered deck x ks cells) where
   abbrev h : Hour
@@ -100,20 +100,22 @@ module _ {deck : List ℕ} {x : ScannedDeck} {ks : List Key} {cells : List ℤ} 
   cell-is : (k : ℕ) → k < cellCount h → cellAt cells k ≡ cellAt (cellsOf h p) k
   cell-is k l = ap (λ (xs : List ℤ). cellAt xs k) (a .is) ∙ List·getD-append (cellsOf h p) (a .after) (pos 0) k (omega (arith, cells-length h p))
 
-  pub enough : cellCount h ≤ length cells
+  enough : cellCount h ≤ length cells
   enough = omega (arith, ap length (a .is), length-append (cellsOf h p) (a .after), cells-length h p)
 
-  pub small : SmallFirst cells (h .ndeliveries * (h .nsources * pairWidth))
-  small = record {
-    there = omega (arith, enough);
-    small = λ k l. let e = cell-is k (omega arith) in rw e (small-cells h p (accepted-is-valid deck h (a .read)) (a .run) k);
-  }
+  is-valid : valid h ≡ true
+  is-valid = accepted-is-valid deck h (a .read)
+
+  -- all are small; those of the pairs come first
+  pub small : SmallFirst cells (cellCount h)
+  small = record { there = enough; small = λ k l. let e = cell-is k l in rw e (small-cells h p is-valid (a .run) k) }
+
+  pub pairs-small : SmallFirst cells (h .ndeliveries * (h .nsources * pairWidth))
+  pairs-small = record { there = omega (arith, enough); small = λ k l. small .small k (omega arith) }
 
   -- where the open lines' cells begin
-  pub base-fits : h .ndeliveries * (h .nsources * pairWidth) ≤ 4096
-  base-fits =
-      let n : h .nsources * pairWidth ≤ 128 = omega (arith, given .sources .few) in
-      omega (arith, mul-le-mul (given .deliveries .few) n)
+  pub base-fits : h .ndeliveries * (h .nsources * pairWidth) ≤ 32 * (32 * pairWidth)
+  base-fits = cells-few h is-valid
 
   pub sources-held : Held deck (x .sources)
   sources-held = record { each = λ i. (a .scanned .sources .each i .order, a .scanned .sources .each i .within) }
@@ -128,32 +130,32 @@ module _ {deck : List ℕ} {x : ScannedDeck} {ks : List Key} {cells : List ℤ} 
   delivery-part j l = a .scanned .deliveries .each j .bytes ∙ rw (lt-ltb j (h .ndeliveries) l)
 
   pub deliveries-short : ShortLabels deck (x .deliveries) (h .ndeliveries)
-  deliveries-short = record { short = λ j l. omega (arith, ap length (delivery-part j l), labels-short h (accepted-is-valid deck h (a .read)) .deliveries j l) }
+  deliveries-short = record { short = λ j l. omega (arith, ap length (delivery-part j l), labels-short h is-valid .deliveries j l) }
 
-  pair-cell : (j i k at : ℕ) → j < h .ndeliveries → i < h .nsources → k < pairWidth → at ≡ pairPlace h j i k → cellAt cells at ≡ getD (pairCells (p .cells) j i) k (pos 0)
-  pair-cell j i k at l m n e = ap (cellAt cells) e ∙ cell-is (pairPlace h j i k) (omega (arith, row-within j (h .ndeliveries) (h .nsources * pairWidth) l)) ∙ pair-at h p j i k l m n
+  pairs-are : (j i : ℕ) → j < h .ndeliveries → i < h .nsources → pairFrom cells (j * (h .nsources * pairWidth) + i * pairWidth) ≡ p .cells j i
+  pairs-are j i l m =
+      fun-ext (λ item.
+      let within = item-within item in
+      let at : j * (h .nsources * pairWidth) + i * pairWidth + itemPlace item ≡ pairPlace h j i (itemPlace item) = omega arith in
+      ap (cellAt cells) at ∙ cell-is (pairPlace h j i (itemPlace item)) (omega (arith, row-within j (h .ndeliveries) (h .nsources * pairWidth) l)) ∙ pair-cell h p j i item l m)
 
-  open-cell : (i k at : ℕ) → i < h .nsources → k < openWidth → at ≡ openPlace h i k → cellAt cells at ≡ getD (openCells (p .states) i) k (pos 0)
-  open-cell i k at m n e = ap (cellAt cells) e ∙ cell-is (openPlace h i k) (omega arith) ∙ open-at h p i k m n
+  opens-are : (i : ℕ) → i < h .nsources → openFrom cells (h .ndeliveries * (h .nsources * pairWidth) + i * openWidth) ≡ (λ item. pos (openAmount item (getD (p .states) i noRunning)))
+  opens-are i m =
+      fun-ext (λ item.
+      let within = open-item-within item in
+      let at : h .ndeliveries * (h .nsources * pairWidth) + i * openWidth + openItemPlace item ≡ openPlace h i (openItemPlace item) = omega arith in
+      ap (cellAt cells) at ∙ cell-is (openPlace h i (openItemPlace item)) (omega arith) ∙ open-cell h p i item m)
 
   pair-written : (j i : ℕ) → j < h .ndeliveries → i < h .nsources → (rest : List ℕ)
       → pairAt deck (x .sources) cells (j * (h .nsources * pairWidth)) (headAt deck (x .deliveries) ks j) i rest ≡ printed (pairLine h p j i) rest
   pair-written j i l m rest =
-      let k = j * (h .nsources * pairWidth) + i * pairWidth in
-      let c : (n at : ℕ) → n < pairWidth → at ≡ pairPlace h j i n → cellAt cells at ≡ getD (pairCells (p .cells) j i) n (pos 0) = λ n at l′ e. pair-cell j i n at l m l′ e in
-      let two = c 2 (k + 2) (omega arith) (omega arith) in
-      let three = c 3 (k + 3) (omega arith) (omega arith) in
-      let sum : cellAt cells (k + 2) +ℤ cellAt cells (k + 3) ≡ p .cells j i directCost +ℤ p .cells j i incrementalCost =
-      ap (λ (z : ℤ). z +ℤ cellAt cells (k + 3)) two ∙ ap (λ (z : ℤ). p .cells j i directCost +ℤ z) three in
-      line-pair (partAt deck (x .deliveries) j) (keyAt ks j .number) (partAt deck (x .sources) i) (cellAt cells k) (cellAt cells (k + 1)) (cellAt cells (k + 2) +ℤ cellAt cells (k + 3)) rest
-      ∙ pair-same (delivery-part j l) (a .numbered j l) (source-part i m) (c 0 k (omega arith) (omega arith)) (c 1 (k + 1) (omega arith) (omega arith)) sum rest
-      ∙ pair-line (chars (deliveryAt h j .label)) (keyAt (keys h) j .number) (chars (sourceAt h i .label)) (p .cells j i directMwh) (p .cells j i incrementalMwh) (p .cells j i directCost +ℤ p .cells j i incrementalCost) rest
+      pair-same (delivery-part j l) (a .numbered j l) (source-part i m) (ap pairAmounts (pairs-are j i l m)) rest
+      ∙ pair-line (chars (deliveryAt h j .label)) (keyAt (keys h) j .number) (chars (sourceAt h i .label)) (pairAmounts (p .cells j i)) rest
 
   open-written : (i : ℕ) → i < h .nsources → (rest : List ℕ) → openAt deck (x .sources) cells (h .ndeliveries * (h .nsources * pairWidth)) i rest ≡ printed (openLine h p i) rest
   open-written i m rest =
-      let b = h .ndeliveries * (h .nsources * pairWidth) in
-      open-same (source-part i m) (open-cell i 0 (b + i * openWidth) m (omega arith) (omega arith)) (open-cell i 1 (b + i * openWidth + 1) m (omega arith) (omega arith)) rest
-      ∙ open-line (chars (sourceAt h i .label)) (getD (p .states) i noRunning .v) (openCost (getD (p .states) i noRunning)) rest
+      line-same (text "internal \"") (source-part i m) (ap openAmounts (opens-are i m)) rest
+      ∙ open-line (chars (sourceAt h i .label)) (openAmounts λ item. pos (openAmount item (getD (p .states) i noRunning))) rest
 
   hour-written : (rest : List ℕ) → writtenText deck x ks cells rest ≡ hourText h p rest
   hour-written rest =

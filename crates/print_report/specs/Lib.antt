@@ -1,3 +1,4 @@
+pub mod LineAmounts
 pub mod Rows
 pub mod HourReport
 pub mod LabelsShort

@@ -4,33 +4,35 @@ use mathlib.Core.Bool.{true}
 use mathlib.Core.List.{List, [], _∷_, _++_}
 use Prim.Native.Nat.{ℕ, zero, suc, _+_, _-_, _*_, _≤_, _<_}
 use native.Mathlib.Omega.{arith}
-use lib.IntN.{ℤ, pos, negsuc, natAbs, _+ℤ_}
+use lib.IntN.{ℤ, pos, negsuc, natAbs}
 use lib.ListN.{length, getD, length-append}
+use Rattle.rules.specs.Words.{text}
 use Rattle.rules.specs.Refusals.{Outcome, accepted, refused, numberOf, placeOf, andThen}
-use Rattle.rules.specs.Group.{noRunning, openCost, directMwh, incrementalMwh, directCost, incrementalCost}
+use Rattle.rules.specs.Group.{noRunning, Item, OpenItem, openAmount}
 use Rattle.rules.specs.Fields as fields
 use Rattle.rules.specs.Fields.{digits, escape, Chars}
 use Rattle.rules.specs.Record.{chars, sourceAt, deliveryAt}
-use Rattle.rules.specs.Hour.{pairWidth, openWidth, keys, keyAt, Progress, reconstructed, cellsOf, pairCells, openCells}
+use Rattle.rules.specs.Hour.{keys, keyAt, Progress, reconstructed, cellsOf}
 use Rattle.rules.specs.Reading.{generated, delivered, reading}
 use Rattle.rules.specs.Writing.{valid}
 use Rattle.rules.specs.Report as reports
-use Rattle.rules.specs.Report.{hour, pair, internal, end, refusal, pairLine, openLine, hourLines, linesOf, signedText, reportTexts, report}
+use Rattle.rules.specs.Report.{hour, pair, internal, end, refusal, pairAmounts, openAmounts, pairLine, openLine, hourLines, linesOf, signedText, reportTexts, report}
 use Rattle.rules.specs.declared.Hour.{Hour}
 use Rattle.rules.specs.declared.InternalSequence.{InternalSequence}
 use Rattle.rules.specs.declared.Refusal.{Refusal}
 use Rattle.roundtrip.specs.DeckFits.{digits-most}
 use Rattle.roundtrip.specs.DeckRoundTrip.{accepted-is-valid}
 use Rattle.roundtrip.specs.GivenHour.{valid-given}
-use Rattle.balance.specs.AnswerCells.{cellAt, pairPlace, openPlace, pair-at, open-at}
+use Rattle.balance.specs.Accounts.{itemPlace, openItemPlace}
+use Rattle.balance.specs.AnswerCells.{cellAt, pairPlace, openPlace, pair-cell, open-cell}
 use Rattle.balance.specs.CellsFit.{SmallCell}
 use Rattle.balance.specs.NumbersBelow1000.{numbers-below}
 use Rattle.balance.specs.ValidHour.{valid-sequences}
 use Rattle.write_fields.specs.Lengths.{digits-few}
 use Rattle.write_fields.specs.Inked as inked
 use Rattle.write_fields.specs.Inked.{Text, upTo}
-use Rattle.print_lines.specs.Lines.{printed, hour-line, pair-line, open-line, refusal-line}
-use Rattle.print_lines.specs.Amounts.{sum-most}
+use Rattle.print_lines.specs.Lines.{amountAt, spacedAmounts, tailText, headText, lineText, printed, hour-line, pair-line, open-line, refusal-line}
+use Rattle.print_report.specs.LineAmounts.{SmallAmounts, pair-amounts-small, open-amounts-small}
 use Rattle.print_report.specs.HourReport.{pairsText, opensText, hour-lines}
 use Rattle.print_report.specs.LabelsShort.{labels-short}
 use Rattle.print_report.specs.HourRows.{small-cells}
@@ -38,6 +40,13 @@ use Rattle.print_report.specs.HourRows.{small-cells}
 -- as many as no report passes
 abbrev pub mostReport : ℕ
 mostReport = 131072
+
+-- a pair's line and an open one have at most so many; an amount takes 17 at most
+abbrev mostPair : ℕ
+mostPair = 74 + length (pairAmounts λ item. pos 0) * 17
+
+abbrev mostOpen : ℕ
+mostOpen = 44 + length (openAmounts λ item. pos 0) * 17
 
 -- Numbers.
 
@@ -53,38 +62,35 @@ signed-short : (z : ℤ) → natAbs z ≤ 200_000_000_000_000 → length (signed
 signed-short (pos n) h = omega (arith, size-short n h)
 signed-short (negsuc n) h = omega (arith, size-short (suc n) h)
 
+-- n texts of at most so many bytes
+upTo-short : (f : ℕ → Text) (most n : ℕ) → ((i : ℕ) → i < n → (rest : List ℕ) → length (f i rest) ≤ most + length rest) → (rest : List ℕ) → length (upTo f n rest) ≤ n * most + length rest
+unfolding inked.upTo
+upTo-short f most zero h rest = omega arith
+upTo-short f most (suc n) h rest = omega (arith, upTo-short f most n (λ i l. h i (omega arith)) (f n rest), h n (omega arith) rest)
+
 -- Lines.
 
-pair-short : (d : Chars) (n : InternalSequence) (s : Chars) (x y z : ℤ) → length (escape d) ≤ 32 → n .0 < 1000 → length (escape s) ≤ 32
-    → natAbs x ≤ 200_000_000_000_000 → natAbs y ≤ 200_000_000_000_000 → natAbs z ≤ 200_000_000_000_000
-    → (rest : List ℕ) → length (printed (pair d n s x y z) rest) ≤ 125 + length rest
-pair-short d n s x y z dl nl sl xl yl zl rest =
-    let a = signedText z ++ (10 ∷ rest) in
-    let b = signedText y ++ (32 ∷ a) in
-    let c = signedText x ++ (32 ∷ b) in
-    let e = escape s ++ (34 ∷ 32 ∷ c) in
-    let f = digits (n .0) ++ (32 ∷ 34 ∷ e) in
+amounts-short : (zs : List ℤ) → SmallAmounts zs → (rest : List ℕ) → length (spacedAmounts zs rest) ≤ length zs * 17 + length rest
+amounts-short zs small =
+    upTo-short (amountAt zs) 17 (length zs) (λ i l rest. omega (arith, length-append (signedText (getD zs i (pos 0))) rest, signed-short (getD zs i (pos 0)) (small .most i)))
+
+line-short : (head s : List ℕ) (zs : List ℤ) → length s ≤ 32 → SmallAmounts zs → (rest : List ℕ) → length (lineText head s zs rest) ≤ length head + 34 + length zs * 17 + length rest
+line-short head s zs sl small rest = omega (arith, length-append head (s ++ tailText zs rest), length-append s (tailText zs rest), amounts-short zs small (10 ∷ rest))
+
+pair-short : (d : Chars) (n : InternalSequence) (s : Chars) (zs : List ℤ) → length (escape d) ≤ 32 → n .0 < 1000 → length (escape s) ≤ 32 → SmallAmounts zs
+    → (rest : List ℕ) → length (printed (pair d n s zs) rest) ≤ 74 + length zs * 17 + length rest
+pair-short d n s zs dl nl sl small rest =
     omega (
       arith,
-      ap length (pair-line d n s x y z rest),
-      length-append (escape d) (34 ∷ 32 ∷ f),
-      length-append (digits (n .0)) (32 ∷ 34 ∷ e),
-      length-append (escape s) (34 ∷ 32 ∷ c),
-      length-append (signedText x) (32 ∷ b),
-      length-append (signedText y) (32 ∷ a),
-      length-append (signedText z) (10 ∷ rest),
+      ap length (pair-line d n s zs rest),
+      line-short (headText (escape d) n []) (escape s) zs sl small rest,
+      length-append (escape d) (34 ∷ 32 ∷ digits (n .0) ++ (32 ∷ 34 ∷ [])),
+      length-append (digits (n .0)) (32 ∷ 34 ∷ []),
       number-short (n .0) nl,
-      signed-short x xl,
-      signed-short y yl,
-      signed-short z zl,
     )
 
-open-short : (s : Chars) (v w : ℕ) → length (escape s) ≤ 32 → v ≤ 200_000_000_000_000 → w ≤ 200_000_000_000_000
-    → (rest : List ℕ) → length (printed (internal s v w) rest) ≤ 76 + length rest
-open-short s v w sl vl wl rest =
-    let a = digits w ++ (10 ∷ rest) in
-    let b = digits v ++ (32 ∷ a) in
-    omega (arith, ap length (open-line s v w rest), length-append (escape s) (34 ∷ 32 ∷ b), length-append (digits v) (32 ∷ a), length-append (digits w) (10 ∷ rest), size-short v vl, size-short w wl)
+open-short : (s : Chars) (zs : List ℤ) → length (escape s) ≤ 32 → SmallAmounts zs → (rest : List ℕ) → length (printed (internal s zs) rest) ≤ 44 + length zs * 17 + length rest
+open-short s zs sl small rest = omega (arith, ap length (open-line s zs rest), line-short (text "internal \"") (escape s) zs sl small rest)
 
 hour-short : (g l d x : ℕ) (rest : List ℕ) → length (printed (hour g l d x) rest) ≤ 89 + length rest
 hour-short g l d x rest =
@@ -109,39 +115,30 @@ refusal-short n p rest =
     let a = digits p ++ (10 ∷ rest) in
     omega (arith, ap length (refusal-line n p rest), length-append (digits n) (32 ∷ a), length-append (digits p) (10 ∷ rest), digits-few n, digits-few p)
 
--- n texts of at most so many bytes
-upTo-short : (f : ℕ → Text) (most n : ℕ) → ((i : ℕ) → i < n → (rest : List ℕ) → length (f i rest) ≤ most + length rest) → (rest : List ℕ) → length (upTo f n rest) ≤ n * most + length rest
-unfolding inked.upTo
-upTo-short f most zero h rest = omega arith
-upTo-short f most (suc n) h rest = omega (arith, upTo-short f most n (λ i l. h i (omega arith)) (f n rest), h n (omega arith) rest)
-
 -- The hour.
 
 module _ (h : Hour) (p : Progress) (v : valid h ≡ true) (run : reconstructed h ≡ accepted p) where
   small-at : (k : ℕ) (z : ℤ) → cellAt (cellsOf h p) k ≡ z → SmallCell z
   small-at k z e = rw e at (small-cells h p v run k)
 
-  pair-small : (j i k : ℕ) → j < h .ndeliveries → i < h .nsources → k < pairWidth → SmallCell (getD (pairCells (p .cells) j i) k (pos 0))
-  pair-small j i k l m n = small-at (pairPlace h j i k) _ (pair-at h p j i k l m n)
+  pair-small : (j i : ℕ) → j < h .ndeliveries → i < h .nsources → (item : Item) → SmallCell (p .cells j i item)
+  pair-small j i l m item = small-at (pairPlace h j i (itemPlace item)) _ (pair-cell h p j i item l m)
 
-  open-small : (i k : ℕ) → i < h .nsources → k < openWidth → SmallCell (getD (openCells (p .states) i) k (pos 0))
-  open-small i k m n = small-at (openPlace h i k) _ (open-at h p i k m n)
+  open-small : (i : ℕ) → i < h .nsources → (item : OpenItem) → SmallCell (pos (openAmount item (getD (p .states) i noRunning)))
+  open-small i m item = small-at (openPlace h i (openItemPlace item)) _ (open-cell h p i item m)
 
-  pair-line-short : (j : ℕ) → j < h .ndeliveries → (i : ℕ) → i < h .nsources → (rest : List ℕ) → length (printed (pairLine h p j i) rest) ≤ 125 + length rest
+  pair-line-short : (j : ℕ) → j < h .ndeliveries → (i : ℕ) → i < h .nsources → (rest : List ℕ) → length (printed (pairLine h p j i) rest) ≤ mostPair + length rest
   pair-line-short j l i m rest =
-      let small : (k : ℕ) → k < pairWidth → SmallCell (getD (pairCells (p .cells) j i) k (pos 0)) = λ k n. pair-small j i k l m n in
-      let labels = labels-short h v in
-      pair-short (chars (deliveryAt h j .label)) (keyAt (keys h) j .number) (chars (sourceAt h i .label)) (p .cells j i directMwh) (p .cells j i incrementalMwh) (p .cells j i directCost +ℤ p .cells j i incrementalCost)
-      (labels .deliveries j l) (numbers-below h (valid-sequences h v) j) (labels .sources i m) (omega (arith, small 0 (omega arith))) (omega (arith, small 1 (omega arith)))
-      (sum-most (p .cells j i directCost) (p .cells j i incrementalCost) (small 2 (omega arith)) (small 3 (omega arith))) rest
+      pair-short (chars (deliveryAt h j .label)) (keyAt (keys h) j .number) (chars (sourceAt h i .label)) (pairAmounts (p .cells j i))
+      (labels-short h v .deliveries j l) (numbers-below h (valid-sequences h v) j) (labels-short h v .sources i m) (pair-amounts-small (p .cells j i) (pair-small j i l m)) rest
 
-  open-line-short : (i : ℕ) → i < h .nsources → (rest : List ℕ) → length (printed (openLine h p i) rest) ≤ 76 + length rest
+  open-line-short : (i : ℕ) → i < h .nsources → (rest : List ℕ) → length (printed (openLine h p i) rest) ≤ mostOpen + length rest
   open-line-short i m rest =
-      open-short (chars (sourceAt h i .label)) (getD (p .states) i noRunning .v) (openCost (getD (p .states) i noRunning)) (labels-short h v .sources i m)
-      (omega (arith, open-small i 0 m (omega arith))) (omega (arith, open-small i 1 m (omega arith))) rest
+      let cell : OpenItem → ℤ = λ item. pos (openAmount item (getD (p .states) i noRunning)) in
+      open-short (chars (sourceAt h i .label)) (openAmounts cell) (labels-short h v .sources i m) (open-amounts-small cell (open-small i m)) rest
 
-  row-short : (j : ℕ) → j < h .ndeliveries → (rest : List ℕ) → length (pairsText h p j rest) ≤ 4000 + length rest
-  row-short j l rest = omega (arith, upTo-short (λ i. printed (pairLine h p j i)) 125 (h .nsources) (pair-line-short j l) rest, valid-given h v .sources .few)
+  row-short : (j : ℕ) → j < h .ndeliveries → (rest : List ℕ) → length (pairsText h p j rest) ≤ 32 * mostPair + length rest
+  row-short j l rest = omega (arith, upTo-short (λ i. printed (pairLine h p j i)) mostPair (h .nsources) (pair-line-short j l) rest, valid-given h v .sources .few)
 
   hour-at-most : length (reportTexts (hourLines h p)) ≤ mostReport
   unfolding reports.reportText
@@ -154,8 +151,8 @@ module _ (h : Hour) (p : Progress) (v : valid h ≡ true) (run : reconstructed h
         arith,
         ap length (hour-lines h p),
         hour-short (generated h) (h .losses) (delivered h) (generated h - (h .losses + delivered h)) rows,
-        upTo-short (pairsText h p) 4000 (h .ndeliveries) row-short opens,
-        upTo-short (λ i. printed (openLine h p i)) 76 (h .nsources) open-line-short last,
+        upTo-short (pairsText h p) (32 * mostPair) (h .ndeliveries) row-short opens,
+        upTo-short (λ i. printed (openLine h p i)) mostOpen (h .nsources) open-line-short last,
         given .sources .few,
         given .deliveries .few,
       )

@@ -1,37 +1,42 @@
 // The report of a deck as text, line by line straight into a lent buffer: its length is found first where the buffer may be too short for it.
-// Contracts cite Room and Inked of write_fields, the rows of specs/Rows, and report, reporting and leaves of rules.
+// Contracts cite Room and Inked of write_fields, the rows of specs/Rows and their amounts in LineAmounts, and report, reporting and leaves of rules.
 ghost use mathlib.Core.Path.{_≡_};
 ghost use mathlib.Core.Bool.{true};
 ghost use mathlib.Core.List.{[], _++_};
 ghost use Prim.Native.Nat.{_+_, _*_, _^_, _≤_, _<_};
+ghost use lib.IntN.{_+ℤ_};
 ghost use lib.ListN.{length, drop};
 ghost use Rattle.rules.specs.Answers.{writtenOf};
 ghost use Rattle.rules.specs.Refusals.{numberOf, placeOf};
 ghost use Rattle.rules.specs.Hour.{pairWidth, openWidth, cellCount, answer};
-ghost use Rattle.rules.specs.Report.{refusal, report};
+ghost use Rattle.rules.specs.Report.{pairAmounts, openAmounts, refusal, report};
 ghost use Rattle.rules.specs.Writing.{valid};
 ghost use Rattle.rules.specs.Calls.{reporting, leaves};
+ghost use Rattle.balance.specs.CellsFit.{SmallCell};
 ghost use Rattle.sequence.specs.Placings.{placings};
 ghost use Rattle.write_fields.specs.Inked.{Room, Inked, upTo};
 ghost use Rattle.print_lines.specs.Lines.{printed};
-ghost use Rattle.print_report.specs.Rows.{Held, ShortLabels, SmallFirst, Summed, rowText, rowAt, openAt};
+ghost use Rattle.print_report.specs.LineAmounts.{SmallFirst, pairFrom, openFrom};
+ghost use Rattle.print_report.specs.Rows.{Held, ShortLabels, rowText, rowAt, openAt};
 ghost use Rattle.print_report.specs.HourRows.{Answered};
 ghost use Rattle.print_report.specs.Printing.{ReadDeck, Ended, handed};
 use deck::Place;
 use deck::ScannedDeck;
+use moves::PAIR_CELLS;
+use reconstruct::OPEN_CELLS;
 use rules::Hour;
 use rules::Key;
 use rules::Refusal;
 use rules::Verdict;
 use rules::Written;
 
-// A pair's cells and an open line's.
-const PAIR_CELLS: usize = 4;
+// How many amounts a pair's line prints, and an open one.
+const PAIR_AMOUNTS: usize = 3;
 
-const OPEN_CELLS: usize = 2;
+const OPEN_AMOUNTS: usize = OPEN_CELLS;
 
 // As many cells as an hour has at most, and as many as a small one may have.
-const MOST_CELLS: usize = 4160;
+const MOST_CELLS: usize = 32 * (32 * PAIR_CELLS) + 32 * OPEN_CELLS;
 
 const FEW_CELLS: usize = 512;
 
@@ -41,25 +46,33 @@ const MOST_HEAD: usize = 64;
 // No report is longer.
 const MOST_REPORT: usize = 131072;
 
-// What a pair's line tells of its four cells.
-pub struct Amounts {
-    pub direct: i64,
-    pub incremental: i64,
-    pub cost: i64,
+// A pair's costs in one sum.
+fn both_costs(direct: i64, incremental: i64) -> i64
+    requires { ⌜ SmallCell direct × SmallCell incremental ⌝ }
+    ensures { λ r. ⌜ r ≡ direct +ℤ incremental ⌝ }
+{
+    direct + incremental
 }
 
-fn amounts_at(cells: &[i64], k: usize) -> Amounts
+// What a pair's line prints of the pair's cells, which stand from a place on.
+fn pair_amounts_at(cells: &[i64], k: usize) -> [i64; PAIR_AMOUNTS]
     requires { ⌜ SmallFirst (now cells) (k + pairWidth) ⌝ }
-    ensures { λ r. ⌜ Summed (now (cells .entry)) k r ⌝ }
+    ensures { λ r. ⌜ r ≡ pairAmounts (pairFrom (now (cells .entry)) k) ⌝ }
 {
     let direct = cells[k];
     let incremental = cells[k + 1];
-    let cost = print_lines::both_costs(cells[k + 2], cells[k + 3]);
-    Amounts {
-        direct: direct,
-        incremental: incremental,
-        cost: cost,
-    }
+    let cost = both_costs(cells[k + 2], cells[k + 3]);
+    [direct, incremental, cost]
+}
+
+// What an open line prints of the source's.
+fn open_amounts_at(cells: &[i64], k: usize) -> [i64; OPEN_AMOUNTS]
+    requires { ⌜ SmallFirst (now cells) (k + openWidth) ⌝ }
+    ensures { λ r. ⌜ r ≡ openAmounts (openFrom (now (cells .entry)) k) ⌝ }
+{
+    let mwh = cells[k];
+    let cost = cells[k + 1];
+    [mwh, cost]
 }
 
 // A delivery with each source: the sources' labels at their places in the deck, the pairs' cells from a place on.
@@ -81,8 +94,8 @@ fn put_row(
     while i < n {
         let place = sources[i];
         let source = deck::part_at(deck, place);
-        let x = amounts_at(cells, base + i * PAIR_CELLS);
-        p = print_lines::put_pair(buf, p, head, source, x.direct, x.incremental, x.cost);
+        let amounts = pair_amounts_at(cells, base + i * PAIR_CELLS);
+        p = print_lines::put_line(buf, p, head, source, &amounts);
         i += 1;
     }
     p
@@ -136,7 +149,7 @@ fn put_opens(
     cells: &[i64],
     base: usize,
 ) -> usize
-    requires { ⌜ (n ≤ 32) × Held (now deck) sources × (base + n * openWidth ≤ length (now cells)) × Room (now buf) at (upTo (openAt (now deck) sources (now cells) base) n []) ⌝ }
+    requires { ⌜ (n ≤ 32) × Held (now deck) sources × SmallFirst (now cells) (base + n * openWidth) × Room (now buf) at (upTo (openAt (now deck) sources (now cells) base) n []) ⌝ }
     ensures { λ r. ⌜ Inked (now (buf .entry)) at (now (buf .exit)) r (upTo (openAt (now (deck .entry)) sources (now (cells .entry)) base) n) ⌝ }
 {
     let mut p = at;
@@ -144,10 +157,8 @@ fn put_opens(
     while i < n {
         let place = sources[i];
         let source = deck::part_at(deck, place);
-        let k = base + i * OPEN_CELLS;
-        let mwh = cells[k];
-        let cost = cells[k + 1];
-        p = print_lines::put_open(buf, p, source, mwh, cost);
+        let amounts = open_amounts_at(cells, base + i * OPEN_CELLS);
+        p = print_lines::put_open(buf, p, source, &amounts);
         i += 1;
     }
     p
@@ -190,8 +201,8 @@ fn row_length(
     while i < n {
         let place = sources[i];
         let source = deck::part_at(deck, place);
-        let x = amounts_at(cells, base + i * PAIR_CELLS);
-        size += print_lines::pair_length(head, source, x.direct, x.incremental, x.cost);
+        let amounts = pair_amounts_at(cells, base + i * PAIR_CELLS);
+        size += print_lines::line_length(head, source, &amounts);
         i += 1;
     }
     size
@@ -224,7 +235,7 @@ fn rows_length(
 }
 
 fn opens_length(deck: &[u8], sources: [Place; 32], n: usize, cells: &[i64], base: usize) -> usize
-    requires { ⌜ (n ≤ 32) × Held (now deck) sources × (base + n * openWidth ≤ length (now cells)) × (length (upTo (openAt (now deck) sources (now cells) base) n []) < 2 ^ 64) ⌝ }
+    requires { ⌜ (n ≤ 32) × Held (now deck) sources × SmallFirst (now cells) (base + n * openWidth) × (length (upTo (openAt (now deck) sources (now cells) base) n []) < 2 ^ 64) ⌝ }
     ensures { λ r. ⌜ r ≡ length (upTo (openAt (now (deck .entry)) sources (now (cells .entry)) base) n []) ⌝ }
 {
     let mut size: usize = 0;
@@ -232,10 +243,8 @@ fn opens_length(deck: &[u8], sources: [Place; 32], n: usize, cells: &[i64], base
     while i < n {
         let place = sources[i];
         let source = deck::part_at(deck, place);
-        let k = base + i * OPEN_CELLS;
-        let mwh = cells[k];
-        let cost = cells[k + 1];
-        size += print_lines::open_length(source, mwh, cost);
+        let amounts = open_amounts_at(cells, base + i * OPEN_CELLS);
+        size += print_lines::open_length(source, &amounts);
         i += 1;
     }
     size

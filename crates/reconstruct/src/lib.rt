@@ -23,7 +23,7 @@ ghost use Rattle.reconstruct.specs.CellsCleared.{Cleared};
 ghost use Rattle.reconstruct.specs.CellsWritten.{AmountsFit, AmountsPut, OpenFits, OpenPut};
 
 // A source's open cells.
-const OPEN_CELLS: usize = 2;
+pub const OPEN_CELLS: usize = 2;
 
 fn cell(x: u64) -> i64
     requires { ⌜ x ≤ 100_000_000_000_000 ⌝ }

@@ -1,12 +1,12 @@
 -- Document 01, "Hours to try": the report's lines, and their text.
-use mathlib.Core.List.{List, [], _∷_, _++_}
+use mathlib.Core.List.{List, [], _∷_, _++_, map}
 use Prim.Native.Nat.{ℕ, suc, _+_, _-_}
 use lib.ListN.{getD}
 use lib.IntN.{ℤ, pos, negsuc, _+ℤ_}
 use Rattle.rules.specs.Words.{listTo, text}
 use Rattle.rules.specs.Refusals.{Outcome, accepted, refused, numberOf, placeOf, andThen}
-use Rattle.rules.specs.Group.{noRunning, directMwh, incrementalMwh, directCost, incrementalCost, openCost}
-use Rattle.rules.specs.Hour.{keys, keyAt, Progress, reconstructed}
+use Rattle.rules.specs.Group.{noRunning, Item, directMwh, incrementalMwh, directCost, incrementalCost, OpenItem, openAmount}
+use Rattle.rules.specs.Hour.{keys, keyAt, Progress, reconstructed, openItems}
 use Rattle.rules.specs.Fields.{digits, escape, Chars}
 use Rattle.rules.specs.Record.{chars, sourceAt, deliveryAt}
 use Rattle.rules.specs.Reading.{generated, delivered, reading}
@@ -15,8 +15,8 @@ use Rattle.rules.specs.declared.InternalSequence.{InternalSequence}
 
 pub data ReportLine : Type 0 where
   hour : (generation losses deliveries load : ℕ) → ReportLine
-  pair : (delivery : Chars) (number : InternalSequence) (source : Chars) (direct incremental cost : ℤ) → ReportLine
-  internal : (source : Chars) (mwh cost : ℕ) → ReportLine
+  pair : (delivery : Chars) (number : InternalSequence) (source : Chars) (amounts : List ℤ) → ReportLine
+  internal : (source : Chars) (amounts : List ℤ) → ReportLine
   end : ReportLine
   refusal : (number place : ℕ) → ReportLine
 
@@ -24,15 +24,22 @@ pub data ReportLine : Type 0 where
 abbrev pub headerLine : Hour → ReportLine
 headerLine h = hour (generated h) (h .losses) (delivered h) (generated h - (h .losses + delivered h))
 
--- "Then each delivery with each source, deck order: label as in the deck, internal number, source, direct MWh, incremental MWh, both costs in one sum."
+-- "direct MWh, incremental MWh, both costs in one sum": what a pair's cells, item by item, are printed as
+abbrev pub pairAmounts : (Item → ℤ) → List ℤ
+pairAmounts cell = cell directMwh ∷ cell incrementalMwh ∷ (cell directCost +ℤ cell incrementalCost) ∷ []
+
+-- "open MWh and cost of each source": what a source's open cells are printed as
+abbrev pub openAmounts : (OpenItem → ℤ) → List ℤ
+openAmounts cell = map cell openItems
+
+-- "Then each delivery with each source, deck order: label as in the deck, internal number, source, .."
 abbrev pub pairLine : Hour → Progress → ℕ → ℕ → ReportLine
 pairLine h p j i =
-    pair (chars (deliveryAt h j .label)) (keyAt (keys h) j .number) (chars (sourceAt h i .label)) (p .cells j i directMwh) (p .cells j i incrementalMwh)
-    (p .cells j i directCost +ℤ p .cells j i incrementalCost)
+    pair (chars (deliveryAt h j .label)) (keyAt (keys h) j .number) (chars (sourceAt h i .label)) (pairAmounts (p .cells j i))
 
 -- "Then open MWh and cost of each source."
 abbrev pub openLine : Hour → Progress → ℕ → ReportLine
-openLine h p i = internal (chars (sourceAt h i .label)) (getD (p .states) i noRunning .v) (openCost (getD (p .states) i noRunning))
+openLine h p i = internal (chars (sourceAt h i .label)) (openAmounts λ item. pos (openAmount item (getD (p .states) i noRunning)))
 
 unfoldable pub hourLines : Hour → Progress → List ReportLine
 hourLines h p =
@@ -63,11 +70,15 @@ infixr 5 _␣_
 abbrev pub _␣_ : List ℕ → List ℕ → List ℕ
 x ␣ y = x ++ (32 ∷ y)
 
+-- each amount after a space
+unfoldable pub amountsText : List ℤ → List ℕ
+amountsText [] = []
+amountsText (z ∷ zs) = 32 ∷ signedText z ++ amountsText zs
+
 unfoldable pub reportText : ReportLine → List ℕ
 reportText (hour generation losses deliveries load) = text "hour" ␣ digits generation ␣ digits losses ␣ digits deliveries ␣ digits load
-reportText (pair delivery number source direct incremental cost) =
-    labelText delivery ␣ digits (number .0) ␣ labelText source ␣ signedText direct ␣ signedText incremental ␣ signedText cost
-reportText (internal source mwh cost) = text "internal" ␣ labelText source ␣ digits mwh ␣ digits cost
+reportText (pair delivery number source amounts) = labelText delivery ␣ digits (number .0) ␣ labelText source ++ amountsText amounts
+reportText (internal source amounts) = text "internal" ␣ labelText source ++ amountsText amounts
 reportText end = text "end"
 reportText (refusal number place) = text "refused" ␣ digits number ␣ digits place
 

@@ -19,7 +19,7 @@ use Rattle.rules.specs.Record.{sameLabel, labelOf, started, body}
 use Rattle.rules.specs.Reading.{taken, feed, headed, finished, onLine, linesFrom, reading}
 use Rattle.rules.specs.Writing.{texts, deckText, sameBy, sameHour, allLabelled, given, valid}
 use Rattle.rules.specs.Calls.{cellsFor, writing, reconstruction, leaves, sourcePart, deliveryPart}
-use Rattle.rules.specs.Report.{hourLines, reportLines, reportText, reportTexts, report}
+use Rattle.rules.specs.Report.{hourLines, reportLines, amountsText, reportText, reportTexts, report}
 use Rattle.rules.specs.declared.HeatCurve.{HeatCurve}
 use Rattle.rules.specs.declared.Plant.{Plant}
 use Rattle.rules.specs.declared.Plant.the-variants.{Unit, Fixed}
@@ -400,5 +400,5 @@ table =
     []
 
 pub starred : allRight table ≡ true
-unfolding table allRight right curve u1 u1Line p1Line xLine delivery three printed creditOf manySources manyDeliveries manyDirects losing lastSource lastDirect sixCells twelve accepts isRefused writesBack sameCells sameℤ sumTo listTo allTo anyTo findTo sameList curveCost matches ruleA ruleB ruleC ruleD ruleE placed numbered changed directed groupLine groupLines room unitRoom better next move plain headroom toEmergency unload credit remainder upTo keys inTurn turns share shared rest group groups reconstructed cellsOf answer byteAt run numberAt digitsIn digits escape unescape closing labelEnd allCharacters isLabel spacedNumber spacedLabel basisAt spacedBasis fieldsAt seen written ranged labelled letterOf placesAt lineAt lineText started body taken feed headed finished linesFrom reading texts deckText sameBy sameHour allLabelled given valid writing cellsFor reconstruction sourcePart deliveryPart hourLines reportLines reportText reportTexts report
+unfolding table allRight right curve u1 u1Line p1Line xLine delivery three printed creditOf manySources manyDeliveries manyDirects losing lastSource lastDirect sixCells twelve accepts isRefused writesBack sameCells sameℤ sumTo listTo allTo anyTo findTo sameList curveCost matches ruleA ruleB ruleC ruleD ruleE placed numbered changed directed groupLine groupLines room unitRoom better next move plain headroom toEmergency unload credit remainder upTo keys inTurn turns share shared rest group groups reconstructed cellsOf answer byteAt run numberAt digitsIn digits escape unescape closing labelEnd allCharacters isLabel spacedNumber spacedLabel basisAt spacedBasis fieldsAt seen written ranged labelled letterOf placesAt lineAt lineText started body taken feed headed finished linesFrom reading texts deckText sameBy sameHour allLabelled given valid writing cellsFor reconstruction sourcePart deliveryPart hourLines reportLines amountsText reportText reportTexts report
 starred = refl

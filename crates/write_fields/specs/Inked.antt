@@ -99,6 +99,12 @@ upTo-more : (f : ℕ → Text) (n : ℕ) (rest : List ℕ) → upTo f n (f n res
 unfolding upTo
 upTo-more f n rest = rw add-one
 
+-- texts that are the same one by one
+pub upTo-same : (f g : ℕ → Text) (n : ℕ) → ((i : ℕ) → i < n → (rest : List ℕ) → f i rest ≡ g i rest) → (rest : List ℕ) → upTo f n rest ≡ upTo g n rest
+unfolding upTo
+upTo-same f g zero h rest = refl
+upTo-same f g (suc n) h rest = ap (upTo f n) (h n (omega arith) rest) ∙ upTo-same f g n (λ i l. h i (omega arith)) (g n rest)
+
 -- the first by itself
 pub upTo-first : (f : ℕ → Text) (n : ℕ) (rest : List ℕ) → upTo f (suc n) rest ≡ f 0 (upTo (λ i. f (suc i)) n rest)
 unfolding upTo
@@ -106,6 +112,10 @@ upTo-first f zero rest = refl
 upTo-first f (suc n) rest = upTo-first f n (f (suc n) rest)
 
 module _ (f : ℕ → Text) where
+  pub length-none : length (upTo f 0 []) ≡ 0
+  unfolding upTo
+  length-none = refl
+
   pub inked-none : (a : List ℕ) (at : ℕ) → Inked a at a at (upTo f 0)
   unfolding upTo
   inked-none a at = inked-nothing a at
@@ -123,14 +133,21 @@ module _ (f : ℕ → Text) where
     front-upTo zero = record { longer = λ rest. omega arith }
     front-upTo (suc n) = front-then (front-upTo n) (each n)
 
-    upTo-less : (i k : ℕ) → length (upTo f i []) ≤ length (upTo f (k + i) [])
+    pub length-more : (i : ℕ) → length (upTo f i []) + length (f i []) ≡ length (upTo f (i + 1) [])
+    length-more i = omega (arith, front-upTo i .longer (f i []), ap length (upTo-more f i []))
+
+    length-less : (i k : ℕ) → length (upTo f i []) ≤ length (upTo f (k + i) [])
     unfolding upTo
-    upTo-less i zero = let z : 0 + i ≡ i = omega arith in rw z (omega arith)
-    upTo-less i (suc k) = let z : suc k + i ≡ suc (k + i) = omega arith in rw z (omega (arith, upTo-less i k, front-upTo (k + i) .longer (f (k + i) [])))
+    length-less i zero = let z : 0 + i ≡ i = omega arith in rw z (omega arith)
+    length-less i (suc k) = let z : suc k + i ≡ suc (k + i) = omega arith in rw z (omega (arith, length-less i k, front-upTo (k + i) .longer (f (k + i) [])))
+
+    -- one of n, and those before it
+    pub length-within : (i n : ℕ) → i < n → length (upTo f i []) + length (f i []) ≤ length (upTo f n [])
+    length-within i n l =
+        let z : (n - (i + 1)) + (i + 1) ≡ n = omega arith in
+        let less : length (upTo f (i + 1) []) ≤ length (upTo f n []) = rw z at (length-less (i + 1) (n - (i + 1))) in
+        omega (arith, less, length-more i)
 
     -- one of n that has not been written has room where all n have
     pub room-next : {a : List ℕ} {at : ℕ} {b : List ℕ} {p : ℕ} (i n : ℕ) → i < n → Inked a at b p (upTo f i) → Room a at (upTo f n []) → Room b p (f i [])
-    room-next i n lt e r =
-        let z : (n - (i + 1)) + (i + 1) ≡ n = omega arith in
-        let less : length (upTo f (i + 1) []) ≤ length (upTo f n []) = rw z at (upTo-less (i + 1) (n - (i + 1))) in
-        record { fits = omega (arith, less, ap length (upTo-more f i []), e .place (f i []), e .kept, r .fits) }
+    room-next i n lt e r = record { fits = omega (arith, length-within i n lt, front-upTo i .longer (f i []), e .place (f i []), e .kept, r .fits) }

@@ -1,23 +1,64 @@
--- `print_lines::are_zero` meets its contract. Bits that are 0 are the number 0.
+-- `print_lines::are_zero` meets its contract. The loop's invariant: the first i amounts are 0.
 use borrow.Author.Needs.{needs}
-use borrow.Author.Tests.{eqb-true}
+use mathlib.Core.Path.{_≡_}
+use Prim.Native.Nat.{ℕ, _-_, _≤_, _<_}
+use native.Mathlib.Omega.{arith}
+use lib.IntN.{pos}
+use lib.ListN.{length, getD}
 use Rattle.laws.specs.Choices.{false-not-true}
+use Rattle.laws.specs.Sums.{below-suc}
 use Rattle.print_lines.specs.Amounts.{zero-held}
 use Rattle.print_lines.proofs.are_zero.Statement.{statement}
 use Rattle.print_lines.proofs.are_zero.Tie as tie
 
-returns : tie.Need-returns
+abbrev Inv-loop : tie.InvT-loop
+Inv-loop amounts i₀ i = (i ≤ length amounts) × ((k : ℕ) → k < i → getD amounts k (pos 0) ≡ pos 0)
+
+abbrev μ-loop : tie.MeasureT-loop
+μ-loop amounts i₀ i = length amounts - i
+
+loop-holds : tie.Need-loop-holds Inv-loop μ-loop
+loop-holds c = (search needs, λ k l. absurd (omega arith))
+
+mul-if1 : tie.Need-mul-if1 Inv-loop μ-loop
+mul-if1 c = search needs
+
+shared-slice-copy-out-if1 : tie.Need-shared-slice-copy-out-if1 Inv-loop μ-loop
+shared-slice-copy-out-if1 c = search needs
+
+returns : tie.Need-returns Inv-loop μ-loop
 returns c = λ e. false-not-true e
 
-returns-2 : tie.Need-returns-2
-returns-2 c = λ e. false-not-true e
+add-i : tie.Need-add-i Inv-loop μ-loop
+add-i c = search needs
 
-returns-3 : tie.Need-returns-3
-returns-3 c =
-    let else2 = c in
-    let else1 = else2 .before in
-    let s = else1 .before in
-    λ e. (zero-held _ (s .fits .direct) (else1 .if1 .left), zero-held _ (s .fits .incremental) (else2 .if2 .left), zero-held _ (s .fits .cost) (eqb-true _ 0 e))
+loop-less : tie.Need-loop-less Inv-loop μ-loop
+loop-less c = search needs
+
+loop-again : tie.Need-loop-again Inv-loop μ-loop
+loop-again c =
+    let amount = c .before in
+    let at-loop = amount .before .before in
+    let s = at-loop .before in
+    let zero = zero-held _ (record { sfits = amount .if12 .given }) (c .if1 .left) in
+    (search needs, λ k l. below-suc (λ k. getD (s .args .amounts .now) k (pos 0) ≡ pos 0) (at-loop .loop .i) (at-loop .loop .inv .1) zero k (omega arith))
+
+returns-2 : tie.Need-returns-2 Inv-loop μ-loop
+returns-2 c =
+    let at-loop = c .before in
+    λ e k l. at-loop .loop .inv .1 k (omega arith)
 
 pub are-zero-spec : {M : Type 1} → statement M
-are-zero-spec = tie.close (tie.spec returns returns-2 returns-3)
+are-zero-spec =
+    tie.close
+    (tie.spec
+    Inv-loop
+    μ-loop
+    loop-holds
+    mul-if1
+    shared-slice-copy-out-if1
+    returns
+    add-i
+    loop-less
+    loop-again
+    returns-2)

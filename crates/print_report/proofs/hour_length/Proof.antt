@@ -4,7 +4,7 @@ use mathlib.Core.List.{[]}
 use mathlib.Core.Path.{ap}
 use native.Mathlib.Omega.{arith}
 use lib.ListN.{length}
-use Rattle.print_report.specs.HourRows.{given, enough, small, base-fits, sources-held, deliveries-held, deliveries-short, header-same, report-length}
+use Rattle.print_report.specs.HourRows.{given, small, pairs-small, base-fits, sources-held, deliveries-held, deliveries-short, header-same, report-length}
 use Rattle.print_report.specs.ReportFits.{report-fits}
 use Rattle.print_report.proofs.hour_length.Statement.{statement}
 use Rattle.print_report.proofs.hour_length.Tie as tie
@@ -38,7 +38,7 @@ rows-length-requires c κs =
       sources-held (s .pre),
       deliveries-held (s .pre),
       deliveries-short (s .pre),
-      small (s .pre),
+      pairs-small (s .pre),
       omega (arith, report-length (s .pre), report-fits (s .args .deck .now)),
     )
 
@@ -55,7 +55,7 @@ mul-opens-length-2 c =
 opens-length-requires : tie.Need-opens-length-requires
 opens-length-requires c κs =
     let s = c .before .before .before .before .before .before .before .before .before in
-    (given (s .pre) .sources .few, sources-held (s .pre), enough (s .pre), omega (arith, report-length (s .pre), report-fits (s .args .deck .now)))
+    (given (s .pre) .sources .few, sources-held (s .pre), small (s .pre), omega (arith, report-length (s .pre), report-fits (s .args .deck .now)))
 
 add-result : tie.Need-add-result
 add-result c =

@@ -5,9 +5,10 @@ use mathlib.Core.List.{[]}
 use Prim.Native.Nat.{_+_, _-_, _*_, _≤_}
 use native.Mathlib.Omega.{arith}
 use lib.ListN.{length}
+use Rattle.rules.specs.Words.{text}
 use Rattle.rules.specs.Hour.{openWidth}
-use Rattle.write_fields.specs.Inked.{upTo}
-use Rattle.print_report.specs.Rows.{openAt, front-open-at, open-at-held, length-none, length-more, length-within}
+use Rattle.write_fields.specs.Inked.{upTo, length-none, length-more, length-within}
+use Rattle.print_report.specs.Rows.{openAt, part-small, front-open-at, line-same}
 use Rattle.print_report.proofs.opens_length.Statement.{statement}
 use Rattle.print_report.proofs.opens_length.Tie as tie
 
@@ -18,7 +19,9 @@ abbrev μ-loop : tie.MeasureT-loop
 μ-loop deck n cells base sources size₀ i₀ size i = n - i
 
 loop-holds : tie.Need-loop-holds Inv-loop μ-loop
-loop-holds c = (search needs, search needs, search needs, sym (length-none _))
+loop-holds c =
+    let s = c .before in
+    (search needs, search needs, s .pre .2 .there, sym (length-none _))
 
 mul-place : tie.Need-mul-place Inv-loop μ-loop
 mul-place c = search needs
@@ -32,55 +35,45 @@ part-at-requires c κs =
     let s = at-loop .before .before in
     s .pre .1 .each (at-loop .loop .i)
 
-mul-k : tie.Need-mul-k Inv-loop μ-loop
-mul-k c = search needs
+mul-open-amounts-at : tie.Need-mul-open-amounts-at Inv-loop μ-loop
+mul-open-amounts-at c = search needs
 
-add-k : tie.Need-add-k Inv-loop μ-loop
-add-k c = search needs
+add-open-amounts-at : tie.Need-add-open-amounts-at Inv-loop μ-loop
+add-open-amounts-at c = search needs
 
-mul-mwh : tie.Need-mul-mwh Inv-loop μ-loop
-mul-mwh c = search needs
+open-amounts-at-requires : tie.Need-open-amounts-at-requires Inv-loop μ-loop
+open-amounts-at-requires c κs =
+    let at-loop = c .before .before .before in
+    let s = at-loop .before .before in
+    part-small (s .args .cells .now) (s .args .base) (at-loop .loop .i) (s .args .n) openWidth (omega arith) (s .pre .2)
 
-shared-slice-copy-out-mwh : tie.Need-shared-slice-copy-out-mwh Inv-loop μ-loop
-shared-slice-copy-out-mwh c = search needs
-
-add-cost : tie.Need-add-cost Inv-loop μ-loop
-add-cost c = search needs
-
-mul-cost : tie.Need-mul-cost Inv-loop μ-loop
-mul-cost c = search needs
-
-shared-slice-copy-out-cost : tie.Need-shared-slice-copy-out-cost Inv-loop μ-loop
-shared-slice-copy-out-cost c = search needs
+slice-aggregate-open-length : tie.Need-slice-aggregate-open-length Inv-loop μ-loop
+slice-aggregate-open-length c = search needs
 
 open-length-requires : tie.Need-open-length-requires Inv-loop μ-loop
 open-length-requires c κs =
-    let cost = c in
-    let mwh = cost .before in
-    let part-at = mwh .before in
+    let amounts = c .before in
+    let part-at = amounts .before in
     let at-loop = part-at .before .before .before in
     let s = at-loop .before .before in
     let a = s .args in
     let lines = openAt (a .deck .now) (a .t2) (a .cells .now) (a .base) in
     let fronts = front-open-at (a .deck .now) (a .t2) (a .cells .now) (a .base) in
-    let written = ap length (open-at-held (a .deck .now) (a .t2) (a .cells .now) (a .base) (at-loop .loop .i) _ (part-at .part-at .ensures) (record { sfits = mwh .mwh .given }) (record { sfits = cost .cost .given }) []) in
-    let within = length-within lines fronts (at-loop .loop .i) (a .n) (omega arith) in
-    omega (arith, written, within, s .pre .3)
+    let written = ap length (line-same (text "internal \"") (part-at .part-at .ensures) (amounts .open-amounts-at .ensures) []) in
+    omega (arith, written, length-within lines fronts (at-loop .loop .i) (a .n) (omega arith), s .pre .3)
 
 add-size : tie.Need-add-size Inv-loop μ-loop
 add-size c =
     let open-length = c in
-    let cost = open-length .before in
-    let mwh = cost .before in
-    let part-at = mwh .before in
+    let amounts = open-length .before .before in
+    let part-at = amounts .before in
     let at-loop = part-at .before .before .before in
     let s = at-loop .before .before in
     let a = s .args in
     let lines = openAt (a .deck .now) (a .t2) (a .cells .now) (a .base) in
     let fronts = front-open-at (a .deck .now) (a .t2) (a .cells .now) (a .base) in
-    let written = ap length (open-at-held (a .deck .now) (a .t2) (a .cells .now) (a .base) (at-loop .loop .i) _ (part-at .part-at .ensures) (record { sfits = mwh .mwh .given }) (record { sfits = cost .cost .given }) []) in
-    let within = length-within lines fronts (at-loop .loop .i) (a .n) (omega arith) in
-    record { fits = omega (arith, written, within, s .pre .3, open-length .open-length .ensures, at-loop .loop .inv .3) }
+    let written = ap length (line-same (text "internal \"") (part-at .part-at .ensures) (amounts .open-amounts-at .ensures) []) in
+    record { fits = omega (arith, written, length-within lines fronts (at-loop .loop .i) (a .n) (omega arith), s .pre .3, open-length .open-length .ensures, at-loop .loop .inv .3) }
 
 add-i : tie.Need-add-i Inv-loop μ-loop
 add-i c = search needs
@@ -91,16 +84,14 @@ loop-less c = search needs
 loop-again : tie.Need-loop-again Inv-loop μ-loop
 loop-again c =
     let open-length = c in
-    let cost = open-length .before in
-    let mwh = cost .before in
-    let part-at = mwh .before in
+    let amounts = open-length .before .before in
+    let part-at = amounts .before in
     let at-loop = part-at .before .before .before in
     let s = at-loop .before .before in
     let a = s .args in
     let lines = openAt (a .deck .now) (a .t2) (a .cells .now) (a .base) in
     let fronts = front-open-at (a .deck .now) (a .t2) (a .cells .now) (a .base) in
-    let written = ap length (open-at-held (a .deck .now) (a .t2) (a .cells .now) (a .base) (at-loop .loop .i) _ (part-at .part-at .ensures) (record { sfits = mwh .mwh .given }) (record { sfits = cost .cost .given }) []) in
-    let within = length-within lines fronts (at-loop .loop .i) (a .n) (omega arith) in
+    let written = ap length (line-same (text "internal \"") (part-at .part-at .ensures) (amounts .open-amounts-at .ensures) []) in
     (search needs, search needs, search needs, omega (arith, written, length-more lines fronts (at-loop .loop .i), open-length .open-length .ensures, at-loop .loop .inv .3))
 
 returns : tie.Need-returns Inv-loop μ-loop
@@ -121,13 +112,10 @@ opens-length-spec =
     mul-place
     array-copy-out-place
     part-at-requires
-    mul-k
-    add-k
-    mul-mwh
-    shared-slice-copy-out-mwh
-    add-cost
-    mul-cost
-    shared-slice-copy-out-cost
+    mul-open-amounts-at
+    add-open-amounts-at
+    open-amounts-at-requires
+    slice-aggregate-open-length
     open-length-requires
     add-size
     add-i

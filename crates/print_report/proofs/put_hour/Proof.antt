@@ -5,7 +5,7 @@ use native.Mathlib.Omega.{arith}
 use Rattle.rules.specs.Report.{headerLine, report}
 use Rattle.write_fields.specs.Inked.{Room, inked-as, inked-then, room-as, room-first, room-after}
 use Rattle.print_lines.specs.Lines.{front-printed}
-use Rattle.print_report.specs.HourRows.{given, enough, small, base-fits, sources-held, deliveries-held, deliveries-short, front-rows, front-left, header-same, writtenText, report-is, whole-room, whole-written}
+use Rattle.print_report.specs.HourRows.{given, small, pairs-small, base-fits, sources-held, deliveries-held, deliveries-short, front-rows, front-left, header-same, writtenText, report-is, whole-room, whole-written}
 use Rattle.print_report.proofs.put_hour.Statement.{statement}
 use Rattle.print_report.proofs.put_hour.Tie as tie
 
@@ -53,7 +53,7 @@ put-rows-requires c κs =
       sources-held (s .pre .0),
       deliveries-held (s .pre .0),
       deliveries-short (s .pre .0),
-      small (s .pre .0),
+      pairs-small (s .pre .0),
       room-first (front-rows (a .deck .now) (a .x) (a .keys) (a .cells .now)) (room-after headed (room s)),
     )
 
@@ -76,7 +76,7 @@ put-opens-requires c κs =
     let s = sum-generated .before .before .before .before .before .before in
     let a = s .args in
     let headed = inked-as (header-same (s .args .x .hour) (sum-generated .sum-generated .result) (sum-delivered .sum-delivered .result) (sum-generated .sum-generated .ensures .0) (sum-delivered .sum-delivered .ensures .0)) (put-header .put-header .ensures) in
-    (given (s .pre .0) .sources .few, sources-held (s .pre .0), enough (s .pre .0), room-first (front-left (a .deck .now) (a .x) (a .cells .now)) (room-after (put-rows .put-rows .ensures) (room-after headed (room s))))
+    (given (s .pre .0) .sources .few, sources-held (s .pre .0), small (s .pre .0), room-first (front-left (a .deck .now) (a .x) (a .cells .now)) (room-after (put-rows .put-rows .ensures) (room-after headed (room s))))
 
 put-end-requires : tie.Need-put-end-requires
 put-end-requires c κs =

@@ -5,9 +5,10 @@ use mathlib.Core.List.{[]}
 use Prim.Native.Nat.{_+_, _-_, _*_, _≤_}
 use native.Mathlib.Omega.{arith}
 use lib.ListN.{length}
+use Rattle.rules.specs.Words.{text}
 use Rattle.rules.specs.Hour.{openWidth}
 use Rattle.write_fields.specs.Inked.{Inked, upTo, inked-as, inked-none, inked-more, inked-all, room-as, room-next}
-use Rattle.print_report.specs.Rows.{openAt, front-open-at, open-at-held}
+use Rattle.print_report.specs.Rows.{openAt, part-small, front-open-at, line-same}
 use Rattle.print_report.proofs.put_opens.Statement.{statement}
 use Rattle.print_report.proofs.put_opens.Tie as tie
 
@@ -18,7 +19,9 @@ abbrev μ-loop : tie.MeasureT-loop
 μ-loop buf₀ at deck n cells base sources p₀ i₀ buf p i = n - i
 
 loop-holds : tie.Need-loop-holds Inv-loop μ-loop
-loop-holds c = (search needs, search needs, search needs, inked-none _ _ _)
+loop-holds c =
+    let s = c .before .before in
+    (search needs, search needs, s .pre .2 .there, inked-none _ _ _)
 
 mul-place : tie.Need-mul-place Inv-loop μ-loop
 mul-place c = search needs
@@ -32,37 +35,30 @@ part-at-requires c κs =
     let s = at-loop .before .before .before in
     s .pre .1 .each (at-loop .loop .i)
 
-mul-k : tie.Need-mul-k Inv-loop μ-loop
-mul-k c = search needs
+mul-open-amounts-at : tie.Need-mul-open-amounts-at Inv-loop μ-loop
+mul-open-amounts-at c = search needs
 
-add-k : tie.Need-add-k Inv-loop μ-loop
-add-k c = search needs
+add-open-amounts-at : tie.Need-add-open-amounts-at Inv-loop μ-loop
+add-open-amounts-at c = search needs
 
-mul-mwh : tie.Need-mul-mwh Inv-loop μ-loop
-mul-mwh c = search needs
+open-amounts-at-requires : tie.Need-open-amounts-at-requires Inv-loop μ-loop
+open-amounts-at-requires c κs =
+    let at-loop = c .before .before .before in
+    let s = at-loop .before .before .before in
+    part-small (s .args .cells .now) (s .args .base) (at-loop .loop .i) (s .args .n) openWidth (omega arith) (s .pre .2)
 
-shared-slice-copy-out-mwh : tie.Need-shared-slice-copy-out-mwh Inv-loop μ-loop
-shared-slice-copy-out-mwh c = search needs
-
-add-cost : tie.Need-add-cost Inv-loop μ-loop
-add-cost c = search needs
-
-mul-cost : tie.Need-mul-cost Inv-loop μ-loop
-mul-cost c = search needs
-
-shared-slice-copy-out-cost : tie.Need-shared-slice-copy-out-cost Inv-loop μ-loop
-shared-slice-copy-out-cost c = search needs
+slice-aggregate-put-open : tie.Need-slice-aggregate-put-open Inv-loop μ-loop
+slice-aggregate-put-open c = search needs
 
 put-open-requires : tie.Need-put-open-requires Inv-loop μ-loop
 put-open-requires c κs =
-    let cost = c .before in
-    let mwh = cost .before in
-    let part-at = mwh .before in
+    let amounts = c .before .before in
+    let part-at = amounts .before in
     let at-loop = part-at .before .before .before in
     let s = at-loop .before .before .before in
     let a = s .args in
     let lines = openAt (a .deck .now) (a .t4) (a .cells .now) (a .base) in
-    room-as (open-at-held (a .deck .now) (a .t4) (a .cells .now) (a .base) (at-loop .loop .i) _ (part-at .part-at .ensures) (record { sfits = mwh .mwh .given }) (record { sfits = cost .cost .given }) [])
+    room-as (line-same (text "internal \"") (part-at .part-at .ensures) (amounts .open-amounts-at .ensures) [])
     (room-next lines (front-open-at (a .deck .now) (a .t4) (a .cells .now) (a .base)) (at-loop .loop .i) (a .n) (omega arith) (at-loop .loop .inv .3) (s .pre .3))
 
 add-i : tie.Need-add-i Inv-loop μ-loop
@@ -74,13 +70,12 @@ loop-less c = search needs
 loop-again : tie.Need-loop-again Inv-loop μ-loop
 loop-again c =
     let put-open = c .before .before in
-    let cost = put-open .before .before in
-    let mwh = cost .before in
-    let part-at = mwh .before in
+    let amounts = put-open .before .before .before in
+    let part-at = amounts .before in
     let at-loop = part-at .before .before .before in
     let s = at-loop .before .before .before in
     let a = s .args in
-    let written = open-at-held (a .deck .now) (a .t4) (a .cells .now) (a .base) (at-loop .loop .i) _ (part-at .part-at .ensures) (record { sfits = mwh .mwh .given }) (record { sfits = cost .cost .given }) in
+    let written = line-same (text "internal \"") (part-at .part-at .ensures) (amounts .open-amounts-at .ensures) in
     (search needs, search needs, search needs, inked-more _ _ (at-loop .loop .inv .3) (inked-as written (put-open .put-open .ensures)))
 
 same-length : tie.Need-same-length Inv-loop μ-loop
@@ -105,13 +100,10 @@ put-opens-spec =
     mul-place
     array-copy-out-place
     part-at-requires
-    mul-k
-    add-k
-    mul-mwh
-    shared-slice-copy-out-mwh
-    add-cost
-    mul-cost
-    shared-slice-copy-out-cost
+    mul-open-amounts-at
+    add-open-amounts-at
+    open-amounts-at-requires
+    slice-aggregate-put-open
     put-open-requires
     add-i
     loop-less

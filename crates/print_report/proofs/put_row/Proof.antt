@@ -7,7 +7,7 @@ use native.Mathlib.Omega.{arith}
 use lib.ListN.{length}
 use Rattle.rules.specs.Hour.{pairWidth}
 use Rattle.write_fields.specs.Inked.{Inked, upTo, inked-as, inked-none, inked-more, inked-all, room-as, room-next}
-use Rattle.print_report.specs.Rows.{pairAt, pair-small, front-pair-at, pair-at-held}
+use Rattle.print_report.specs.Rows.{pairAt, part-small, front-pair-at, line-same}
 use Rattle.print_report.proofs.put_row.Statement.{statement}
 use Rattle.print_report.proofs.put_row.Tie as tie
 
@@ -34,27 +34,30 @@ part-at-requires c κs =
     let s = at-loop .before .before .before .before in
     s .pre .1 .each (at-loop .loop .i)
 
-mul-amounts-at : tie.Need-mul-amounts-at Inv-loop μ-loop
-mul-amounts-at c = search needs
+mul-pair-amounts-at : tie.Need-mul-pair-amounts-at Inv-loop μ-loop
+mul-pair-amounts-at c = search needs
 
-add-amounts-at : tie.Need-add-amounts-at Inv-loop μ-loop
-add-amounts-at c = search needs
+add-pair-amounts-at : tie.Need-add-pair-amounts-at Inv-loop μ-loop
+add-pair-amounts-at c = search needs
 
-amounts-at-requires : tie.Need-amounts-at-requires Inv-loop μ-loop
-amounts-at-requires c κs =
+pair-amounts-at-requires : tie.Need-pair-amounts-at-requires Inv-loop μ-loop
+pair-amounts-at-requires c κs =
     let at-loop = c .before .before .before in
     let s = at-loop .before .before .before .before in
-    pair-small (s .args .cells .now) (s .args .base) (at-loop .loop .i) (s .args .n) (omega arith) (s .pre .2)
+    part-small (s .args .cells .now) (s .args .base) (at-loop .loop .i) (s .args .n) pairWidth (omega arith) (s .pre .2)
 
-put-pair-requires : tie.Need-put-pair-requires Inv-loop μ-loop
-put-pair-requires c κs =
-    let amounts-at = c .before .before .before .before in
-    let part-at = amounts-at .before in
+slice-aggregate-put-line : tie.Need-slice-aggregate-put-line Inv-loop μ-loop
+slice-aggregate-put-line c = search needs
+
+put-line-requires : tie.Need-put-line-requires Inv-loop μ-loop
+put-line-requires c κs =
+    let amounts = c .before .before in
+    let part-at = amounts .before in
     let at-loop = part-at .before .before .before in
     let s = at-loop .before .before .before .before in
     let a = s .args in
     let lines = pairAt (a .deck .now) (a .t4) (a .cells .now) (a .base) (a .head .now) in
-    room-as (pair-at-held (a .deck .now) (a .t4) (a .cells .now) (a .base) (at-loop .loop .i) _ (part-at .part-at .ensures) (a .head .now) (amounts-at .amounts-at .result) (a .n) (omega arith) (s .pre .2) (amounts-at .amounts-at .ensures) [])
+    room-as (line-same (a .head .now) (part-at .part-at .ensures) (amounts .pair-amounts-at .ensures) [])
     (room-next lines (front-pair-at (a .deck .now) (a .t4) (a .cells .now) (a .base) (a .head .now)) (at-loop .loop .i) (a .n) (omega arith) (at-loop .loop .inv .3) (s .pre .3))
 
 add-i : tie.Need-add-i Inv-loop μ-loop
@@ -65,14 +68,14 @@ loop-less c = search needs
 
 loop-again : tie.Need-loop-again Inv-loop μ-loop
 loop-again c =
-    let put-pair = c .before .before in
-    let amounts-at = put-pair .before .before .before .before .before in
-    let part-at = amounts-at .before in
+    let put-line = c .before .before in
+    let amounts = put-line .before .before .before in
+    let part-at = amounts .before in
     let at-loop = part-at .before .before .before in
     let s = at-loop .before .before .before .before in
     let a = s .args in
-    let written = pair-at-held (a .deck .now) (a .t4) (a .cells .now) (a .base) (at-loop .loop .i) _ (part-at .part-at .ensures) (a .head .now) (amounts-at .amounts-at .result) (a .n) (omega arith) (s .pre .2) (amounts-at .amounts-at .ensures) in
-    (search needs, search needs, search needs, inked-more _ _ (at-loop .loop .inv .3) (inked-as written (put-pair .put-pair .ensures)))
+    let written = line-same (a .head .now) (part-at .part-at .ensures) (amounts .pair-amounts-at .ensures) in
+    (search needs, search needs, search needs, inked-more _ _ (at-loop .loop .inv .3) (inked-as written (put-line .put-line .ensures)))
 
 same-length : tie.Need-same-length Inv-loop μ-loop
 same-length c =
@@ -96,10 +99,11 @@ put-row-spec =
     mul-place
     array-copy-out-place
     part-at-requires
-    mul-amounts-at
-    add-amounts-at
-    amounts-at-requires
-    put-pair-requires
+    mul-pair-amounts-at
+    add-pair-amounts-at
+    pair-amounts-at-requires
+    slice-aggregate-put-line
+    put-line-requires
     add-i
     loop-less
     loop-again

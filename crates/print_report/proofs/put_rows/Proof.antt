@@ -58,7 +58,7 @@ mul-put-row-2 c =
     let at-loop = c .before .before .before .before .before .before .before .before in
     let s = at-loop .before .before .before in
     let j : at-loop .loop .j ≤ 32 = omega arith in
-    let w : s .args .n * pairWidth ≤ 128 = omega arith in
+    let w : s .args .n * pairWidth ≤ 32 * pairWidth = omega arith in
     record { fits = omega (arith, mul-le-mul j w) }
 
 sub-put-row : tie.Need-sub-put-row Inv-loop μ-loop

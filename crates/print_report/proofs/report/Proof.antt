@@ -13,7 +13,7 @@ use Rattle.rules.specs.Report.{refusal}
 use Rattle.roundtrip.specs.DeckRoundTrip.{accepted-is-valid}
 use Rattle.roundtrip.specs.GivenHour.{accepted-given}
 use Rattle.reconstruct.specs.WholeAnswer.{placeable}
-use Rattle.balance.specs.CellsAreFew.{count-few}
+use Rattle.balance.specs.CellsAreFew.{mostCells, count-few}
 use Rattle.print_lines.specs.Lines.{printed}
 use Rattle.print_report.specs.Printing.{scanned-refused, scanned-accepted, read-deck, refused-report, told-as}
 use Rattle.print_report.proofs.report.Statement.{statement}
@@ -69,7 +69,7 @@ mul-count-2 c =
     let s = scan .before .before .before in
     let read = scanned-accepted (s .args .deck .now) (scan .scan .result) (scan .scan .ensures) (enum-told .enum-told .given .1) in
     let given = accepted-given (s .args .deck .now) (scan .scan .result .hour) read in
-    let n : scan .scan .result .hour .nsources * pairWidth ≤ 128 = omega (arith, given .sources .few) in
+    let n : scan .scan .result .hour .nsources * pairWidth ≤ 32 * pairWidth = omega (arith, given .sources .few) in
     record { fits = omega (arith, mul-le-mul (given .deliveries .few) n) }
 
 mul-count-3 : tie.Need-mul-count-3
@@ -88,7 +88,7 @@ add-count c =
     let s = scan .before .before .before in
     let read = scanned-accepted (s .args .deck .now) (scan .scan .result) (scan .scan .ensures) (enum-told .enum-told .given .1) in
     let given = accepted-given (s .args .deck .now) (scan .scan .result .hour) read in
-    let n : scan .scan .result .hour .nsources * pairWidth ≤ 128 = omega (arith, given .sources .few) in
+    let n : scan .scan .result .hour .nsources * pairWidth ≤ 32 * pairWidth = omega (arith, given .sources .few) in
     record { fits = omega (arith, given .sources .few, mul-le-mul (given .deliveries .few) n) }
 
 slice-aggregate-fill-cells : tie.Need-slice-aggregate-fill-cells
@@ -137,7 +137,7 @@ fill-cells-requires-2 c κs =
     let s = scan .before .before .before in
     let read = scanned-accepted (s .args .deck .now) (scan .scan .result) (scan .scan .ensures) (enum-told .enum-told .given .1) in
     let valid = accepted-is-valid (s .args .deck .now) (scan .scan .result .hour) read in
-    let long : _≡_ {A = ℕ} (length (replicate 4160 (pos 0))) 4160 = refl in
+    let long : _≡_ {A = ℕ} (length (replicate mostCells (pos 0))) mostCells = refl in
     (valid, keys .keys .ensures, omega (arith, long, count-few (scan .scan .result .hour) valid))
 
 slice-aggregate-print-answer-2 : tie.Need-slice-aggregate-print-answer-2
@@ -150,7 +150,7 @@ print-answer-requires-2 c κs =
     let enum-told = keys .before .before .before in
     let scan = enum-told .before .before in
     let s = scan .before .before .before in
-    (read-deck (s .args .deck .now) (scan .scan .result) _ (scan .scan .ensures) (enum-told .enum-told .given .1) (keys .keys .ensures), record { before = replicate 4160 (pos 0); outcome = fill-cells2 .fill-cells2 .ensures .0; left = fill-cells2 .fill-cells2 .ensures .1 })
+    (read-deck (s .args .deck .now) (scan .scan .result) _ (scan .scan .ensures) (enum-told .enum-told .given .1) (keys .keys .ensures), record { before = replicate mostCells (pos 0); outcome = fill-cells2 .fill-cells2 .ensures .0; left = fill-cells2 .fill-cells2 .ensures .1 })
 
 same-length-3 : tie.Need-same-length-3
 same-length-3 c = search needs

@@ -6,8 +6,8 @@ use Prim.Native.Nat.{_+_, _-_, _*_, _≤_}
 use native.Mathlib.Omega.{arith}
 use lib.ListN.{length}
 use Rattle.rules.specs.Hour.{pairWidth}
-use Rattle.write_fields.specs.Inked.{upTo}
-use Rattle.print_report.specs.Rows.{pairAt, pair-small, front-pair-at, pair-at-held, length-none, length-more, length-within}
+use Rattle.write_fields.specs.Inked.{upTo, length-none, length-more, length-within}
+use Rattle.print_report.specs.Rows.{pairAt, part-small, front-pair-at, line-same}
 use Rattle.print_report.proofs.row_length.Statement.{statement}
 use Rattle.print_report.proofs.row_length.Tie as tie
 
@@ -34,44 +34,45 @@ part-at-requires c κs =
     let s = at-loop .before .before .before in
     s .pre .1 .each (at-loop .loop .i)
 
-mul-amounts-at : tie.Need-mul-amounts-at Inv-loop μ-loop
-mul-amounts-at c = search needs
+mul-pair-amounts-at : tie.Need-mul-pair-amounts-at Inv-loop μ-loop
+mul-pair-amounts-at c = search needs
 
-add-amounts-at : tie.Need-add-amounts-at Inv-loop μ-loop
-add-amounts-at c = search needs
+add-pair-amounts-at : tie.Need-add-pair-amounts-at Inv-loop μ-loop
+add-pair-amounts-at c = search needs
 
-amounts-at-requires : tie.Need-amounts-at-requires Inv-loop μ-loop
-amounts-at-requires c κs =
+pair-amounts-at-requires : tie.Need-pair-amounts-at-requires Inv-loop μ-loop
+pair-amounts-at-requires c κs =
     let at-loop = c .before .before .before in
     let s = at-loop .before .before .before in
-    pair-small (s .args .cells .now) (s .args .base) (at-loop .loop .i) (s .args .n) (omega arith) (s .pre .2)
+    part-small (s .args .cells .now) (s .args .base) (at-loop .loop .i) (s .args .n) pairWidth (omega arith) (s .pre .2)
 
-pair-length-requires : tie.Need-pair-length-requires Inv-loop μ-loop
-pair-length-requires c κs =
-    let amounts-at = c .before .before .before in
-    let part-at = amounts-at .before in
+slice-aggregate-line-length : tie.Need-slice-aggregate-line-length Inv-loop μ-loop
+slice-aggregate-line-length c = search needs
+
+line-length-requires : tie.Need-line-length-requires Inv-loop μ-loop
+line-length-requires c κs =
+    let amounts = c .before in
+    let part-at = amounts .before in
     let at-loop = part-at .before .before .before in
     let s = at-loop .before .before .before in
     let a = s .args in
     let lines = pairAt (a .deck .now) (a .t2) (a .cells .now) (a .base) (a .head .now) in
     let fronts = front-pair-at (a .deck .now) (a .t2) (a .cells .now) (a .base) (a .head .now) in
-    let written = ap length (pair-at-held (a .deck .now) (a .t2) (a .cells .now) (a .base) (at-loop .loop .i) _ (part-at .part-at .ensures) (a .head .now) (amounts-at .amounts-at .result) (a .n) (omega arith) (s .pre .2) (amounts-at .amounts-at .ensures) []) in
-    let within = length-within lines fronts (at-loop .loop .i) (a .n) (omega arith) in
-    omega (arith, written, within, s .pre .3)
+    let written = ap length (line-same (a .head .now) (part-at .part-at .ensures) (amounts .pair-amounts-at .ensures) []) in
+    omega (arith, written, length-within lines fronts (at-loop .loop .i) (a .n) (omega arith), s .pre .3)
 
 add-size : tie.Need-add-size Inv-loop μ-loop
 add-size c =
-    let pair-length = c in
-    let amounts-at = pair-length .before .before .before .before in
-    let part-at = amounts-at .before in
+    let line-length = c in
+    let amounts = line-length .before .before in
+    let part-at = amounts .before in
     let at-loop = part-at .before .before .before in
     let s = at-loop .before .before .before in
     let a = s .args in
     let lines = pairAt (a .deck .now) (a .t2) (a .cells .now) (a .base) (a .head .now) in
     let fronts = front-pair-at (a .deck .now) (a .t2) (a .cells .now) (a .base) (a .head .now) in
-    let written = ap length (pair-at-held (a .deck .now) (a .t2) (a .cells .now) (a .base) (at-loop .loop .i) _ (part-at .part-at .ensures) (a .head .now) (amounts-at .amounts-at .result) (a .n) (omega arith) (s .pre .2) (amounts-at .amounts-at .ensures) []) in
-    let within = length-within lines fronts (at-loop .loop .i) (a .n) (omega arith) in
-    record { fits = omega (arith, written, within, s .pre .3, pair-length .pair-length .ensures, at-loop .loop .inv .3) }
+    let written = ap length (line-same (a .head .now) (part-at .part-at .ensures) (amounts .pair-amounts-at .ensures) []) in
+    record { fits = omega (arith, written, length-within lines fronts (at-loop .loop .i) (a .n) (omega arith), s .pre .3, line-length .line-length .ensures, at-loop .loop .inv .3) }
 
 add-i : tie.Need-add-i Inv-loop μ-loop
 add-i c = search needs
@@ -81,17 +82,16 @@ loop-less c = search needs
 
 loop-again : tie.Need-loop-again Inv-loop μ-loop
 loop-again c =
-    let pair-length = c in
-    let amounts-at = pair-length .before .before .before .before in
-    let part-at = amounts-at .before in
+    let line-length = c in
+    let amounts = line-length .before .before in
+    let part-at = amounts .before in
     let at-loop = part-at .before .before .before in
     let s = at-loop .before .before .before in
     let a = s .args in
     let lines = pairAt (a .deck .now) (a .t2) (a .cells .now) (a .base) (a .head .now) in
     let fronts = front-pair-at (a .deck .now) (a .t2) (a .cells .now) (a .base) (a .head .now) in
-    let written = ap length (pair-at-held (a .deck .now) (a .t2) (a .cells .now) (a .base) (at-loop .loop .i) _ (part-at .part-at .ensures) (a .head .now) (amounts-at .amounts-at .result) (a .n) (omega arith) (s .pre .2) (amounts-at .amounts-at .ensures) []) in
-    let within = length-within lines fronts (at-loop .loop .i) (a .n) (omega arith) in
-    (search needs, search needs, search needs, omega (arith, written, length-more lines fronts (at-loop .loop .i), pair-length .pair-length .ensures, at-loop .loop .inv .3))
+    let written = ap length (line-same (a .head .now) (part-at .part-at .ensures) (amounts .pair-amounts-at .ensures) []) in
+    (search needs, search needs, search needs, omega (arith, written, length-more lines fronts (at-loop .loop .i), line-length .line-length .ensures, at-loop .loop .inv .3))
 
 returns : tie.Need-returns Inv-loop μ-loop
 returns c =
@@ -111,10 +111,11 @@ row-length-spec =
     mul-place
     array-copy-out-place
     part-at-requires
-    mul-amounts-at
-    add-amounts-at
-    amounts-at-requires
-    pair-length-requires
+    mul-pair-amounts-at
+    add-pair-amounts-at
+    pair-amounts-at-requires
+    slice-aggregate-line-length
+    line-length-requires
     add-size
     add-i
     loop-less

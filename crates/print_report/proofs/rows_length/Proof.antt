@@ -7,8 +7,8 @@ use native.Mathlib.Nat.{mul-le-mul}
 use native.Mathlib.Omega.{arith}
 use lib.ListN.{length, replicate}
 use Rattle.rules.specs.Hour.{pairWidth, keyAt}
-use Rattle.write_fields.specs.Inked.{upTo, inked-place}
-use Rattle.print_report.specs.Rows.{rowAt, front-row-at, row-small, head-room, head-bytes, head-at, row-at-held, length-none, length-more, length-within}
+use Rattle.write_fields.specs.Inked.{upTo, inked-place, length-none, length-more, length-within}
+use Rattle.print_report.specs.Rows.{rowAt, front-row-at, row-small, head-room, head-bytes, head-at, row-at-held}
 use Rattle.print_report.proofs.rows_length.Statement.{statement}
 use Rattle.print_report.proofs.rows_length.Tie as tie
 
@@ -58,7 +58,7 @@ mul-row-length-2 c =
     let at-loop = c .before .before .before .before .before .before .before in
     let s = at-loop .before .before in
     let j : at-loop .loop .j ≤ 32 = omega arith in
-    let w : s .args .n * pairWidth ≤ 128 = omega arith in
+    let w : s .args .n * pairWidth ≤ 32 * pairWidth = omega arith in
     record { fits = omega (arith, mul-le-mul j w) }
 
 sub-row-length : tie.Need-sub-row-length Inv-loop μ-loop

@@ -1,7 +1,7 @@
--- `print_lines::both_costs` meets its contract: the sum of two cells fits.
-use Rattle.print_lines.specs.Amounts.{held-fits, held-sum}
-use Rattle.print_lines.proofs.both_costs.Statement.{statement}
-use Rattle.print_lines.proofs.both_costs.Tie as tie
+-- `print_report::both_costs` meets its contract: the sum of two cells fits.
+use Rattle.print_report.specs.LineAmounts.{held-fits, held-sum}
+use Rattle.print_report.proofs.both_costs.Statement.{statement}
+use Rattle.print_report.proofs.both_costs.Tie as tie
 
 add-result : tie.Need-add-result
 add-result c = held-fits (c .args .direct) (c .args .incremental) (c .fits .direct) (c .fits .incremental) (c .pre .0) (c .pre .1)

@@ -1,11 +1,11 @@
--- `print_report::amounts_at` meets its contract. Three keys of four cells.
+-- `print_report::pair_amounts_at` meets its contract. Two cells, and the sum of two.
 use borrow.Author.Needs.{needs}
 use Prim.Native.Nat.{_+_}
 use native.Mathlib.Omega.{arith}
 use Rattle.balance.specs.AnswerCells.{cellAt}
-use Rattle.print_report.specs.Rows.{small-held, summed-held}
-use Rattle.print_report.proofs.amounts_at.Statement.{statement}
-use Rattle.print_report.proofs.amounts_at.Tie as tie
+use Rattle.print_report.specs.LineAmounts.{small-held, pair-held}
+use Rattle.print_report.proofs.pair_amounts_at.Statement.{statement}
+use Rattle.print_report.proofs.pair_amounts_at.Tie as tie
 
 mul-direct : tie.Need-mul-direct
 mul-direct c = search needs
@@ -59,11 +59,11 @@ returns c =
     let incremental = both-costs-arg .before in
     let direct = incremental .before in
     let s = direct .before in
-    summed-held (s .args .cells .now) (s .args .k) (both-costs .both-costs .result) (record { sfits = direct .direct .given }) (record { sfits = incremental .incremental .given })
+    pair-held (s .args .cells .now) (s .args .k) (both-costs .both-costs .result) (record { sfits = direct .direct .given }) (record { sfits = incremental .incremental .given })
     (record { sfits = both-costs-arg .both-costs-arg .given }) (record { sfits = both-costs-arg2 .both-costs-arg2 .given }) (s .pre) (both-costs .both-costs .ensures)
 
-pub amounts-at-spec : {M : Type 1} → statement M
-amounts-at-spec =
+pub pair-amounts-at-spec : {M : Type 1} → statement M
+pair-amounts-at-spec =
     tie.close
     (tie.spec
     mul-direct
