@@ -32,24 +32,25 @@ openFrom cells k x = cellAt cells (k + openItemPlace x)
 
 -- The sum of two cells.
 
-sub-most : (a b n : ℕ) → a ≤ n → b ≤ n → natAbs (subℕ a b) ≤ n
-sub-most a b n h k = elim (decLt a b) [
+size-sub : (a b : ℕ) → natAbs (subℕ a b) ≤ a + b
+size-sub a b = elim (decLt a b) [
   | yes l ↦ rw (lt-ltb a b l) (omega arith)
   | no l ↦ rw (le-ltb a b (omega arith)) (omega arith)
 ]
 
-sum-most : (x y : ℤ) → SmallCell x → SmallCell y → natAbs (x +ℤ y) ≤ 200_000_000_000_000
-sum-most (pos a) (pos b) h k = omega arith
-sum-most (pos a) (negsuc b) h k = sub-most a (suc b) 200_000_000_000_000 (omega arith) (omega arith)
-sum-most (negsuc a) (pos b) h k = sub-most b (suc a) 200_000_000_000_000 (omega arith) (omega arith)
-sum-most (negsuc a) (negsuc b) h k = omega arith
+-- no sum is larger than both together
+size-sum : (x y : ℤ) → natAbs (x +ℤ y) ≤ natAbs x + natAbs y
+size-sum (pos a) (pos b) = omega arith
+size-sum (pos a) (negsuc b) = omega (arith, size-sub a (suc b))
+size-sum (negsuc a) (pos b) = omega (arith, size-sub b (suc a))
+size-sum (negsuc a) (negsuc b) = omega arith
 
 fits-below : (z : ℤ) → natAbs z ≤ 200_000_000_000_000 → SFits w64 z
 fits-below (pos n) h = record { sfits = omega arith }
 fits-below (negsuc n) h = record { sfits = omega arith }
 
 sum-fits : (x y : ℤ) → SmallCell x → SmallCell y → SFits w64 (x +ℤ y)
-sum-fits x y h k = fits-below (x +ℤ y) (sum-most x y h k)
+sum-fits x y h k = fits-below (x +ℤ y) (omega (arith, size-sum x y))
 
 -- the sum as the machine makes it
 module _ (x y : ℤ) (a : SFits w64 x) (b : SFits w64 y) where
@@ -93,7 +94,7 @@ pair-amounts-small f h = record { most = most }
     most : (k : ℕ) → natAbs (getD (pairAmounts f) k (pos 0)) ≤ 200_000_000_000_000
     most zero = omega (arith, h directMwh)
     most (suc zero) = omega (arith, h incrementalMwh)
-    most (suc (suc zero)) = sum-most (f directCost) (f incrementalCost) (h directCost) (h incrementalCost)
+    most (suc (suc zero)) = omega (arith, size-sum (f directCost) (f incrementalCost), h directCost, h incrementalCost)
     most (suc (suc (suc k))) = omega arith
 
 pub open-amounts-small : (f : OpenItem → ℤ) → ((x : OpenItem) → SmallCell (f x)) → SmallAmounts (openAmounts f)

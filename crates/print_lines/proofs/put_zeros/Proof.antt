@@ -4,7 +4,7 @@ use mathlib.Core.Path.{refl}
 use mathlib.Core.List.{_∷_}
 use Prim.Native.Nat.{_-_, _≤_}
 use native.Mathlib.Omega.{arith}
-use Rattle.write_fields.specs.Inked.{Inked, upTo, inked-none, inked-more, inked-all, room-next, front-two}
+use Rattle.write_fields.specs.Inked.{Inked, inked-none, inked-more, inked-all, room-next, front-two}
 use Rattle.print_lines.specs.Lines.{zerosText}
 use Rattle.print_lines.proofs.put_zeros.Statement.{statement}
 use Rattle.print_lines.proofs.put_zeros.Tie as tie
