@@ -1,0 +1,155 @@
+# Sourced by the other tools, which are bash, stand in the repository's root and have their own name in `tool`: the Rattle kit at hand,
+# a workplace that goes when the tool ends, commands that end with it, proofs with a line for each crate, and modules compiled for this machine.
+set -u
+
+group=
+work=
+room=
+say() { echo "$tool: $*" >&2; }
+fail() {
+    say "$*"
+    exit 1
+}
+
+# The kit's folders. Where it is another than the one that everything here was proved with, that is told, once.
+kit() {
+    local found pinned
+    command -v rt >/dev/null || fail "the Rattle kit's rt is not on the path"
+    found=$(rt version) pinned=$(cat KIT)
+    if [ "$found" != "$pinned" ] && [ -z "${BARLEYHOOD_KIT_TOLD-}" ]; then
+        say "warning: the kit at hand is '$found'; all here was proved with '$pinned' (the file KIT)"
+    fi
+    export BARLEYHOOD_KIT_TOLD=1
+    home=$(dirname "$(dirname "$(rt doc)")")
+    own=$home/on/$(uname -m)
+    kit_tools=$own/toolchain
+}
+
+# A folder for this tool alone, in the folder named.
+workplace() {
+    mkdir -p "$1" && work=$(mktemp -d "$1/work.XXXXXX") || fail "no folder can be made in $1"
+    work=$(cd "$work" && pwd)
+}
+
+# Ends all that was started and removes what was begun.
+leave() {
+    local k
+    if [ -n "$group" ]; then
+        kill -TERM -- "-$group"
+        wait "$group"
+        for ((k = 0; k < 100; k++)); do
+            kill -0 -- "-$group" || break
+            sleep 0.05
+        done
+    fi 2>/dev/null
+    rm -rf ${work:+"$work"} ${room:+"$room"}
+}
+ended_by() { # SIGNAL
+    trap '' INT TERM HUP
+    trap - EXIT
+    leave
+    trap - "$1"
+    kill -s "$1" $$
+}
+trap leave EXIT
+for signal in INT TERM HUP; do
+    # shellcheck disable=SC2064
+    trap "ended_by $signal" "$signal"
+done
+
+# Runs a command in a process group of its own: what it starts in turn may be deaf to Ctrl-C, and ends with the group.
+grouped() {
+    local status=0
+    set -m
+    "$@" </dev/null &
+    group=$!
+    set +m
+    wait "$group" || status=$?
+    group=
+    return "$status"
+}
+
+# The crates that a crate names in crates.txt, and all that crates reach, themselves and the kit's libraries included, lower ones or not.
+named_by() { sed -n "s/#.*//; s/^$1: *//p" crates.txt; }
+reached() { # NAME..
+    local found=" " todo="$*" next d
+    while [ -n "${todo// /}" ]; do
+        next=
+        for d in $todo; do
+            case $found in *" $d "*) continue ;; esac
+            found="$found$d "
+            if [ -d "crates/$d" ]; then next="$next $(named_by "$d")"; else next="$next $(sed -n "s/^$d: *//p" "$home/libs/libs.txt")"; fi
+        done
+        todo=$next
+    done
+    echo "$found"
+}
+
+# How many crates of the repository crates are made of, themselves included.
+made_of() { # NAME..
+    local d count=0
+    for d in $(reached "$@"); do [ ! -d "crates/$d" ] || count=$((count + 1)); done
+    echo "$count"
+}
+
+# Proves crates and all that they are made of, one such run at a time in this repository. A line on standard output for each crate that is proved
+# in this run, as it is done; one that was proved before and has not changed is only counted.
+proved() { # NAME..
+    local line left status=0
+    left=$(made_of "$@")
+    # rt runs the programs as nobody, in a folder that nobody must be able to reach.
+    mkdir -p target && exec 8>target/lock && room=$(mktemp -d) && chmod 711 "$room" || fail "no room to prove in"
+    if ! flock -n 8; then
+        say "another run proves here; this one waits for it"
+        grouped flock 8
+    fi
+    set -m
+    coproc RT { TMPDIR=$room exec rt check "$@" 2>&1 8>&- </dev/null; }
+    set +m
+    group=$RT_PID
+    exec 7<&"${RT[0]}"
+    while IFS= read -r line <&7; do
+        printf '%s\n' "$line" >>"$room/log"
+        if [[ $line =~ ^rt:\ ([a-z0-9_]+)\ proved\ \((.*)\)$ ]]; then
+            left=$((left - 1))
+            [[ ${BASH_REMATCH[2]} == unchanged* ]] || echo "$tool: ${BASH_REMATCH[1]} proved in ${BASH_REMATCH[2]}, $left left"
+        fi
+    done
+    exec 7<&-
+    wait "$group" || status=$?
+    group=
+    exec 8>&-
+    [ "$status" -eq 0 ] || grep -E 'NOT PROVED|FAILED|error' "$room/log" | tail -n 12 >&2
+    rm -rf "$room"
+    room=
+    return "$status"
+}
+
+# A toolchain in the workplace whose clang keeps the module that it is to compile at -O3, as module.bc or module.ll; after that it goes on or, with `stop`, fails.
+keeping() { # [stop]
+    local t
+    mkdir "$work/bin" && ln -s "$kit_tools/lib" "$work/lib" || fail "the workplace cannot be written"
+    for t in "$kit_tools"/bin/*; do ln -s "$t" "$work/bin/"; done
+    rm "$work/bin/clang"
+    cat >"$work/bin/clang" <<END
+#!/bin/sh
+case " \$* " in
+*" -O3 "*)
+    for a in "\$@"; do case \$a in *.bc | *.ll) cp "\$a" "$work/module.\${a##*.}"; ${1:+exit 1} ;; esac; done
+    ;;
+esac
+exec "$kit_tools/bin/clang" "\$@"
+END
+    chmod +x "$work/bin/clang"
+}
+
+# The kept module compiled to an object. Its functions name a processor of x86-64; without the name it is compiled for any processor of the
+# machine's kind, or as the options say.
+compiled() { # MACHINE FILE OPTION..
+    local machine=$1 file=$2 module
+    shift 2
+    module=$(ls "$work"/module.*) || return
+    grouped "$kit_tools/bin/clang" --target="$machine-linux-gnu" -Wno-override-module -S -emit-llvm -Xclang -disable-llvm-passes "$module" -o "$work/named.ll" || return
+    sed 's/"target-cpu"="[^"]*"//' "$work/named.ll" >"$work/bare.ll" || return
+    grouped "$kit_tools/bin/clang" --target="$machine-linux-gnu" -Wno-override-module -O3 "$@" -c "$work/bare.ll" -o "$file"
+}
