@@ -11,14 +11,10 @@ fail() {
     exit 1
 }
 
-# The kit's folders. Where it is another than the one that everything here was proved with, that is told, once.
+# The kit's folders. Where it is not the kit that is pinned, that is told, by the first of tools that call one another.
 kit() {
-    local found pinned
     command -v rt >/dev/null || fail "the Rattle kit's rt is not on the path"
-    found=$(rt version) pinned=$(cat KIT)
-    if [ "$found" != "$pinned" ] && [ -z "${BARLEYHOOD_KIT_TOLD-}" ]; then
-        say "warning: the kit at hand is '$found'; all here was proved with '$pinned' (the file KIT)"
-    fi
+    [ -n "${BARLEYHOOD_KIT_TOLD-}" ] || tools/pinned
     export BARLEYHOOD_KIT_TOLD=1
     home=$(dirname "$(dirname "$(rt doc)")")
     own=$home/on/$(uname -m)
@@ -67,6 +63,13 @@ grouped() {
     wait "$group" || status=$?
     group=
     return "$status"
+}
+
+# Whether a file is there and none of the sources named is newer.
+is_fresh() { # FILE SOURCE..
+    local file=$1
+    shift
+    [ -e "$file" ] && [ -z "$(find "$@" -newer "$file" -print -quit)" ]
 }
 
 # The crates that a crate names in crates.txt, and all that crates reach, themselves and the kit's libraries included, lower ones or not.
