@@ -88,37 +88,38 @@ reached() { # NAME..
     echo "$found"
 }
 
-# How many crates of the repository crates are made of, themselves included.
+# The crates of the repository that crates are made of, themselves included.
 made_of() { # NAME..
-    local d count=0
-    for d in $(reached "$@"); do [ ! -d "crates/$d" ] || count=$((count + 1)); done
-    echo "$count"
+    local d
+    for d in $(reached "$@"); do [ ! -d "crates/$d" ] || echo "$d"; done
 }
 
 # Proves crates and all that they are made of, one such run at a time in this repository. A line on standard output for each crate that is proved
 # in this run, as it is done; one that was proved before and has not changed is only counted.
 proved() { # NAME..
-    local line left status=0
-    left=$(made_of "$@")
+    local pending d line status=0 running=yes
+    pending=" $(made_of "$@" | tr '\n' ' ')"
     # rt runs the programs as nobody, in a folder that nobody must be able to reach.
-    mkdir -p target && exec 8>target/lock && room=$(mktemp -d) && chmod 711 "$room" || fail "no room to prove in"
+    mkdir -p target/log && exec 8>target/lock && room=$(mktemp -d) && chmod 711 "$room" || fail "no room to prove in"
     if ! flock -n 8; then
         say "another run proves here; this one waits for it"
         grouped flock 8
     fi
+    # rt tells of crates by twos and more; what it says of each stands in its log as soon as it is done.
+    for d in $pending; do rm -f "target/log/$d.out"; done
     set -m
-    coproc RT { TMPDIR=$room exec rt check "$@" 2>&1 8>&- </dev/null; }
+    TMPDIR=$room rt check "$@" >"$room/log" 2>&1 8>&- </dev/null &
+    group=$!
     set +m
-    group=$RT_PID
-    exec 7<&"${RT[0]}"
-    while IFS= read -r line <&7; do
-        printf '%s\n' "$line" >>"$room/log"
-        if [[ $line =~ ^rt:\ ([a-z0-9_]+)\ proved\ \((.*)\)$ ]]; then
-            left=$((left - 1))
-            [[ ${BASH_REMATCH[2]} == unchanged* ]] || echo "$tool: ${BASH_REMATCH[1]} proved in ${BASH_REMATCH[2]}, $left left"
-        fi
+    while [ -n "$running" ]; do
+        sleep 0.5
+        kill -0 "$group" 2>/dev/null || running=
+        while IFS= read -r line; do
+            [[ $line =~ ^rt:\ ([a-z0-9_]+)\ proved\ \((.*)\)$ && $pending == *" ${BASH_REMATCH[1]} "* ]] || continue
+            pending=${pending/ ${BASH_REMATCH[1]} / }
+            [[ ${BASH_REMATCH[2]} == unchanged* ]] || echo "$tool: ${BASH_REMATCH[1]} proved in ${BASH_REMATCH[2]}, $(wc -w <<<"$pending") left"
+        done < <(grep -h '^rt: ' target/log/*.out 2>/dev/null)
     done
-    exec 7<&-
     wait "$group" || status=$?
     group=
     exec 8>&-

@@ -8,6 +8,7 @@ use rules::Written;
 // Words about a refused deck, for a person, go to descriptor 2 from here, with the frame's number and the rest of its head; there are none yet.
 fn explain(deck: &[u8], k: u64, rest: &[u8]) {}
 
+// No report is longer than what is lent for it here.
 fn put_report(deck: &[u8], k: u64, rest: &[u8]) -> Ending {
     let mut out = [0u8; 131072];
     let Written::Count(n) = print_report::report(deck, &mut out) else {

@@ -6,6 +6,7 @@ use rules::Written;
 // Words about a refused deck, for a person, go to descriptor 2 from here; there are none yet.
 fn explain(deck: &[u8]) {}
 
+// No report is longer than what is lent for it here.
 fn put_report(deck: &[u8]) -> Ending {
     let mut out = [0u8; 131072];
     let Written::Count(n) = print_report::report(deck, &mut out) else {
