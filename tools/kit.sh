@@ -72,7 +72,7 @@ is_fresh() { # FILE SOURCE..
     [ -e "$file" ] && [ -z "$(find "$@" -newer "$file" -print -quit)" ]
 }
 
-# The crates that a crate names in crates.txt, and all that crates reach, themselves and the kit's libraries included, lower ones or not.
+# The crates that a crate names in crates.txt; all that crates reach, themselves included, and once the kit is known its libraries too.
 named_by() { sed -n "s/#.*//; s/^$1: *//p" crates.txt; }
 reached() { # NAME..
     local found=" " todo="$*" next d
@@ -81,7 +81,11 @@ reached() { # NAME..
         for d in $todo; do
             case $found in *" $d "*) continue ;; esac
             found="$found$d "
-            if [ -d "crates/$d" ]; then next="$next $(named_by "$d")"; else next="$next $(sed -n "s/^$d: *//p" "$home/libs/libs.txt")"; fi
+            if [ -d "crates/$d" ]; then
+                next="$next $(named_by "$d")"
+            elif [ -n "${home-}" ]; then
+                next="$next $(sed -n "s/^$d: *//p" "$home/libs/libs.txt")"
+            fi
         done
         todo=$next
     done

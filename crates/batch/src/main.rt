@@ -24,7 +24,7 @@ fn put_report(deck: &[u8], k: u64, rest: &[u8]) -> Ending {
     Ending::Written
 }
 
-// The answer to a frame whose bytes were passed over.
+// The answer to a frame whose bytes were passed over: 1, and no deck to explain it by.
 fn put_over(k: u64, rest: &[u8]) -> Ending {
     if !frames::put_answer(rest, b"refused 1 0\n", 12) {
         return Ending::Unwritten;
