@@ -12,39 +12,30 @@ Inv-loop window₀ from have i₀ window i = (from ≤ i) × (length window ≡ 
 abbrev μ-loop : tie.MeasureT-loop
 μ-loop window₀ from have i₀ window i = have - i
 
--- src/lib.rt:25:5
 loop-holds : tie.Need-loop-holds Inv-loop μ-loop
 loop-holds c = search needs
 
--- src/lib.rt:26:28
 slice-read-window : tie.Need-slice-read-window Inv-loop μ-loop
 slice-read-window c = search needs
 
--- src/lib.rt:26:16
 sub-window : tie.Need-sub-window Inv-loop μ-loop
 sub-window c = search needs
 
--- src/lib.rt:26:9
 slice-write-window : tie.Need-slice-write-window Inv-loop μ-loop
 slice-write-window c = search needs
 
--- src/lib.rt:27:9
 add-i : tie.Need-add-i Inv-loop μ-loop
 add-i c = search needs
 
--- src/lib.rt:25:5
 loop-less : tie.Need-loop-less Inv-loop μ-loop
 loop-less c = search needs
 
--- src/lib.rt:25:5
 loop-again : tie.Need-loop-again Inv-loop μ-loop
 loop-again c = search needs
 
--- src/lib.rt:20:1
 same-length : tie.Need-same-length Inv-loop μ-loop
 same-length c = search needs
 
--- src/lib.rt:20:1
 returns : tie.Need-returns Inv-loop μ-loop
 returns c = search needs
 
