@@ -151,6 +151,9 @@ END
     chmod +x "$work/bin/clang"
 }
 
+# Functions that are compiled into their callers, whatever their size: those that read or write one field, try one line or tell one cost.
+inlined='(read_fields|read_lines|line_rules|ranges|curve|moves|write_fields|print_lines)::[a-z_]*|deck::[a-z]*_at'
+
 # The kept module compiled to an object. Its functions name a processor of x86-64; without the name it is compiled for any processor of the
 # machine's kind, or as the options say.
 compiled() { # MACHINE FILE OPTION..
@@ -158,6 +161,6 @@ compiled() { # MACHINE FILE OPTION..
     shift 2
     module=$(ls "$work"/module.*) || return
     grouped "$kit_tools/bin/clang" --target="$machine-linux-gnu" -Wno-override-module -S -emit-llvm -Xclang -disable-llvm-passes "$module" -o "$work/named.ll" || return
-    sed 's/"target-cpu"="[^"]*"//' "$work/named.ll" >"$work/bare.ll" || return
+    sed -E "s/\"target-cpu\"=\"[^\"]*\"//; s/^(define internal .*@\"($inlined)\"\(.*\)) #/\\1 alwaysinline #/" "$work/named.ll" >"$work/bare.ll" || return
     grouped "$kit_tools/bin/clang" --target="$machine-linux-gnu" -Wno-override-module -O3 "$@" -c "$work/bare.ll" -o "$file"
 }
