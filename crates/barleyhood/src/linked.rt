@@ -1,12 +1,11 @@
 // The calls for C: on numbers and slices, each a pointer and a length. include/barleyhood.h says what a caller needs to know.
-// An answer is a count or refusals' codeOf of a refusal, which is 2^32 or more, or a label's place. The contracts cite rules' definitions, Linked for the answer
-// and label_places' for a label's place.
+// An answer is a count or refusals' codeOf of a refusal, which is 2^32 or more, or a label's place. The contracts cite rules' definitions, and Linked for the answer.
 ghost use mathlib.Core.Path.{_≡_};
 ghost use lib.ListN.{length};
 ghost use Rattle.rules.specs.Calls.{reporting, leaves};
+ghost use Rattle.rules.specs.Places.{sourcePlace, deliveryPlace};
 ghost use Rattle.rules.specs.Reading.{reading};
 ghost use Rattle.barleyhood.specs.Linked.{checkCode, sourcesCode, deliveriesCode, cellsOfDeck, writtenCode, answerCode};
-ghost use Rattle.label_places.specs.Places.{sourcePlace, deliveryPlace};
 use rules::Verdict;
 use rules::Written;
 

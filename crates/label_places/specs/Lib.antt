@@ -1,4 +1,2 @@
-pub mod Places
-pub mod LabelsStand
-pub mod Walk
+pub mod Stands
 pub mod MentionsStandElsewhere

@@ -63,7 +63,7 @@ open-length-requires c κs =
     let a = s .args in
     let lines = openAt (a .deck .now) (a .t2) (a .cells .now) (a .base) in
     let fronts = front-open-at (a .deck .now) (a .t2) (a .cells .now) (a .base) in
-    let written = ap length (open-at-held (a .deck .now) (a .t2) (a .cells .now) (a .base) (at-loop .loop .i) _ (part-at .part-at .ensures) (record { sfits = mwh .mwh .given }) (record { sfits = cost .cost .given }) []) in
+    let written = ap length (open-at-held (a .deck .now) (a .t2) (a .cells .now) (a .base) (at-loop .loop .i) _ (part-at .part-at .ensures .0) (record { sfits = mwh .mwh .given }) (record { sfits = cost .cost .given }) []) in
     let within = length-within lines fronts (at-loop .loop .i) (a .n) (omega arith) in
     omega (arith, written, within, s .pre .3)
 
@@ -78,7 +78,7 @@ add-size c =
     let a = s .args in
     let lines = openAt (a .deck .now) (a .t2) (a .cells .now) (a .base) in
     let fronts = front-open-at (a .deck .now) (a .t2) (a .cells .now) (a .base) in
-    let written = ap length (open-at-held (a .deck .now) (a .t2) (a .cells .now) (a .base) (at-loop .loop .i) _ (part-at .part-at .ensures) (record { sfits = mwh .mwh .given }) (record { sfits = cost .cost .given }) []) in
+    let written = ap length (open-at-held (a .deck .now) (a .t2) (a .cells .now) (a .base) (at-loop .loop .i) _ (part-at .part-at .ensures .0) (record { sfits = mwh .mwh .given }) (record { sfits = cost .cost .given }) []) in
     let within = length-within lines fronts (at-loop .loop .i) (a .n) (omega arith) in
     record { fits = omega (arith, written, within, s .pre .3, open-length .open-length .ensures, at-loop .loop .inv .3) }
 
@@ -99,7 +99,7 @@ loop-again c =
     let a = s .args in
     let lines = openAt (a .deck .now) (a .t2) (a .cells .now) (a .base) in
     let fronts = front-open-at (a .deck .now) (a .t2) (a .cells .now) (a .base) in
-    let written = ap length (open-at-held (a .deck .now) (a .t2) (a .cells .now) (a .base) (at-loop .loop .i) _ (part-at .part-at .ensures) (record { sfits = mwh .mwh .given }) (record { sfits = cost .cost .given }) []) in
+    let written = ap length (open-at-held (a .deck .now) (a .t2) (a .cells .now) (a .base) (at-loop .loop .i) _ (part-at .part-at .ensures .0) (record { sfits = mwh .mwh .given }) (record { sfits = cost .cost .given }) []) in
     let within = length-within lines fronts (at-loop .loop .i) (a .n) (omega arith) in
     (search needs, search needs, search needs, omega (arith, written, length-more lines fronts (at-loop .loop .i), open-length .open-length .ensures, at-loop .loop .inv .3))
 

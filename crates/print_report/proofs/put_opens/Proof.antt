@@ -62,7 +62,7 @@ put-open-requires c κs =
     let s = at-loop .before .before .before in
     let a = s .args in
     let lines = openAt (a .deck .now) (a .t4) (a .cells .now) (a .base) in
-    room-as (open-at-held (a .deck .now) (a .t4) (a .cells .now) (a .base) (at-loop .loop .i) _ (part-at .part-at .ensures) (record { sfits = mwh .mwh .given }) (record { sfits = cost .cost .given }) [])
+    room-as (open-at-held (a .deck .now) (a .t4) (a .cells .now) (a .base) (at-loop .loop .i) _ (part-at .part-at .ensures .0) (record { sfits = mwh .mwh .given }) (record { sfits = cost .cost .given }) [])
     (room-next lines (front-open-at (a .deck .now) (a .t4) (a .cells .now) (a .base)) (at-loop .loop .i) (a .n) (omega arith) (at-loop .loop .inv .3) (s .pre .3))
 
 add-i : tie.Need-add-i Inv-loop μ-loop
@@ -80,7 +80,7 @@ loop-again c =
     let at-loop = part-at .before .before .before in
     let s = at-loop .before .before .before in
     let a = s .args in
-    let written = open-at-held (a .deck .now) (a .t4) (a .cells .now) (a .base) (at-loop .loop .i) _ (part-at .part-at .ensures) (record { sfits = mwh .mwh .given }) (record { sfits = cost .cost .given }) in
+    let written = open-at-held (a .deck .now) (a .t4) (a .cells .now) (a .base) (at-loop .loop .i) _ (part-at .part-at .ensures .0) (record { sfits = mwh .mwh .given }) (record { sfits = cost .cost .given }) in
     (search needs, search needs, search needs, inked-more _ _ (at-loop .loop .inv .3) (inked-as written (put-open .put-open .ensures)))
 
 same-length : tie.Need-same-length Inv-loop μ-loop

@@ -54,7 +54,7 @@ put-pair-requires c κs =
     let s = at-loop .before .before .before .before in
     let a = s .args in
     let lines = pairAt (a .deck .now) (a .t4) (a .cells .now) (a .base) (a .head .now) in
-    room-as (pair-at-held (a .deck .now) (a .t4) (a .cells .now) (a .base) (at-loop .loop .i) _ (part-at .part-at .ensures) (a .head .now) (amounts-at .amounts-at .result) (a .n) (omega arith) (s .pre .2) (amounts-at .amounts-at .ensures) [])
+    room-as (pair-at-held (a .deck .now) (a .t4) (a .cells .now) (a .base) (at-loop .loop .i) _ (part-at .part-at .ensures .0) (a .head .now) (amounts-at .amounts-at .result) (a .n) (omega arith) (s .pre .2) (amounts-at .amounts-at .ensures) [])
     (room-next lines (front-pair-at (a .deck .now) (a .t4) (a .cells .now) (a .base) (a .head .now)) (at-loop .loop .i) (a .n) (omega arith) (at-loop .loop .inv .3) (s .pre .3))
 
 add-i : tie.Need-add-i Inv-loop μ-loop
@@ -71,7 +71,7 @@ loop-again c =
     let at-loop = part-at .before .before .before in
     let s = at-loop .before .before .before .before in
     let a = s .args in
-    let written = pair-at-held (a .deck .now) (a .t4) (a .cells .now) (a .base) (at-loop .loop .i) _ (part-at .part-at .ensures) (a .head .now) (amounts-at .amounts-at .result) (a .n) (omega arith) (s .pre .2) (amounts-at .amounts-at .ensures) in
+    let written = pair-at-held (a .deck .now) (a .t4) (a .cells .now) (a .base) (at-loop .loop .i) _ (part-at .part-at .ensures .0) (a .head .now) (amounts-at .amounts-at .result) (a .n) (omega arith) (s .pre .2) (amounts-at .amounts-at .ensures) in
     (search needs, search needs, search needs, inked-more _ _ (at-loop .loop .inv .3) (inked-as written (put-pair .put-pair .ensures)))
 
 same-length : tie.Need-same-length Inv-loop μ-loop

@@ -55,7 +55,7 @@ pair-length-requires c κs =
     let a = s .args in
     let lines = pairAt (a .deck .now) (a .t2) (a .cells .now) (a .base) (a .head .now) in
     let fronts = front-pair-at (a .deck .now) (a .t2) (a .cells .now) (a .base) (a .head .now) in
-    let written = ap length (pair-at-held (a .deck .now) (a .t2) (a .cells .now) (a .base) (at-loop .loop .i) _ (part-at .part-at .ensures) (a .head .now) (amounts-at .amounts-at .result) (a .n) (omega arith) (s .pre .2) (amounts-at .amounts-at .ensures) []) in
+    let written = ap length (pair-at-held (a .deck .now) (a .t2) (a .cells .now) (a .base) (at-loop .loop .i) _ (part-at .part-at .ensures .0) (a .head .now) (amounts-at .amounts-at .result) (a .n) (omega arith) (s .pre .2) (amounts-at .amounts-at .ensures) []) in
     let within = length-within lines fronts (at-loop .loop .i) (a .n) (omega arith) in
     omega (arith, written, within, s .pre .3)
 
@@ -69,7 +69,7 @@ add-size c =
     let a = s .args in
     let lines = pairAt (a .deck .now) (a .t2) (a .cells .now) (a .base) (a .head .now) in
     let fronts = front-pair-at (a .deck .now) (a .t2) (a .cells .now) (a .base) (a .head .now) in
-    let written = ap length (pair-at-held (a .deck .now) (a .t2) (a .cells .now) (a .base) (at-loop .loop .i) _ (part-at .part-at .ensures) (a .head .now) (amounts-at .amounts-at .result) (a .n) (omega arith) (s .pre .2) (amounts-at .amounts-at .ensures) []) in
+    let written = ap length (pair-at-held (a .deck .now) (a .t2) (a .cells .now) (a .base) (at-loop .loop .i) _ (part-at .part-at .ensures .0) (a .head .now) (amounts-at .amounts-at .result) (a .n) (omega arith) (s .pre .2) (amounts-at .amounts-at .ensures) []) in
     let within = length-within lines fronts (at-loop .loop .i) (a .n) (omega arith) in
     record { fits = omega (arith, written, within, s .pre .3, pair-length .pair-length .ensures, at-loop .loop .inv .3) }
 
@@ -89,7 +89,7 @@ loop-again c =
     let a = s .args in
     let lines = pairAt (a .deck .now) (a .t2) (a .cells .now) (a .base) (a .head .now) in
     let fronts = front-pair-at (a .deck .now) (a .t2) (a .cells .now) (a .base) (a .head .now) in
-    let written = ap length (pair-at-held (a .deck .now) (a .t2) (a .cells .now) (a .base) (at-loop .loop .i) _ (part-at .part-at .ensures) (a .head .now) (amounts-at .amounts-at .result) (a .n) (omega arith) (s .pre .2) (amounts-at .amounts-at .ensures) []) in
+    let written = ap length (pair-at-held (a .deck .now) (a .t2) (a .cells .now) (a .base) (at-loop .loop .i) _ (part-at .part-at .ensures .0) (a .head .now) (amounts-at .amounts-at .result) (a .n) (omega arith) (s .pre .2) (amounts-at .amounts-at .ensures) []) in
     let within = length-within lines fronts (at-loop .loop .i) (a .n) (omega arith) in
     (search needs, search needs, search needs, omega (arith, written, length-more lines fronts (at-loop .loop .i), pair-length .pair-length .ensures, at-loop .loop .inv .3))
 
