@@ -1,26 +1,28 @@
 -- The one number that a function for C gives back tells what the call came to. Below 2^32 it was accepted; from there on the number over 2^32 is the
 -- refusal's number, and what is left its place. Of a label, the number over 2^32 is where its bytes start, and what is left how many they are.
 use mathlib.Core.Bool.{Bool, true, false}
-use mathlib.Core.List.{List, []}
+use mathlib.Core.List.{List, [], _∷_}
 use mathlib.Core.Path.{_≡_, refl, ap, _∙_}
 use Prim.Native.Nat.{ℕ, _+_, _*_, _/_, _%_, _<_, _≤_}
 use native.Mathlib.Omega.{arith}
 use borrow.Author.Tests.{ltb-true}
 use lib.Dec.{ltb}
 use lib.IntN.{ℤ}
-use lib.ListN.{length}
+use lib.ListN.{length, length-append}
 use Rattle.rules.specs.Calls as calls
 use Rattle.rules.specs.Calls.{reconstruction, reporting, sourcePart, sourcePartOf, deliveryPart, deliveryPartOf}
-use Rattle.rules.specs.Places.{sourceStart, deliveryStart}
+use Rattle.rules.specs.Places as places
+use Rattle.rules.specs.Places.{sourceStart, deliveryStart, sourcePlace, deliveryPlace, labelPlaces, labelling}
 use Rattle.rules.specs.Reading.{reading}
 use Rattle.rules.specs.Refusals.{Outcome, accepted, refused, refuse, andThen, numberOf, placeOf}
 use Rattle.rules.specs.Report.{report}
-use Rattle.rules.specs.Words.{if_then_else_}
+use Rattle.rules.specs.Words.{if_then_else_, listTo}
 use Rattle.rules.specs.declared.Hour.{Hour}
 use Rattle.rules.specs.declared.Refusal.{Refusal}
 use Rattle.rules.specs.declared.Refusal.the-variants.{Short}
 use Rattle.roundtrip.specs.DeckRoundTrip.{accepted-is-valid}
 use Rattle.roundtrip.specs.GivenHour.{accepted-given}
+use Rattle.laws.specs.Sums.{listTo-length}
 use Rattle.refusals.specs.Codes.{codeOf}
 use Rattle.print_report.specs.LabelsShort.{labels-short}
 use Rattle.print_report.specs.ReportFits.{report-fits}
@@ -36,6 +38,7 @@ use Rattle.barleyhood.proofs.linked.barleyhood_plain.Reads as barleyhoo
 use Rattle.barleyhood.proofs.linked.barleyhood_report.Reads as barleyhood-report-call
 use Rattle.barleyhood.proofs.linked.barleyhood_source_label.Reads as barleyhood-source-label-call
 use Rattle.barleyhood.proofs.linked.barleyhood_delivery_label.Reads as barleyhood-delivery-label-call
+use Rattle.barleyhood.proofs.linked.barleyhood_labels.Reads as barleyhood-labels-call
 
 abbrev pub Tells : {A : Type 0} → ℕ → Outcome A → Type 0
 Tells code (accepted v) = code < 4_294_967_296
@@ -143,3 +146,28 @@ barleyhood-delivery-label κ a code x =
     let s = a .0 .now in
     let j = a .1 .0 in
     start-told (deliveryStart s j) (length (deliveryPart s j)) code (delivery-few s j)
+
+-- All of them.
+
+labels-few : (s : List ℕ) (h : Hour) → reading s ≡ accepted h → length (labelPlaces s h) ≤ 64
+labels-few s h e =
+    let xs = listTo (λ i. sourcePlace s i ∷ []) (h .nsources) in
+    let ys = listTo (λ j. deliveryPlace s j ∷ []) (h .ndeliveries) in
+    let g = accepted-given s h e in
+    omega (arith, length-append xs ys, listTo-length (λ i. sourcePlace s i ∷ []) 1 (λ k. refl) (h .nsources), listTo-length (λ j. deliveryPlace s j ∷ []) 1 (λ k. refl) (h .ndeliveries), g .sources .few, g .deliveries .few)
+
+labels-tell : (s : List ℕ) (size code : ℕ) → code ≡ writtenCode (labelling s size) → Tells code (labelling s size)
+unfolding places.labelling
+labels-tell s size code e = go (reading s) refl e
+  where
+    of : (h : Hour) → reading s ≡ accepted h → (b : Bool) → code ≡ writtenCode (refuse b Short (accepted (labelPlaces s h))) → Tells code (refuse b Short (accepted (labelPlaces s h)))
+    of h oe true e = (omega (arith, e), omega (arith, e))
+    of h oe false e = omega (arith, e, labels-few s h oe)
+
+    go : (o : Outcome Hour) → reading s ≡ o → code ≡ writtenCode (andThen o λ h. refuse (ltb size (h .nsources + h .ndeliveries)) Short (accepted (labelPlaces s h)))
+        → Tells code (andThen o λ h. refuse (ltb size (h .nsources + h .ndeliveries)) Short (accepted (labelPlaces s h)))
+    go (accepted h) oe e = of h oe (ltb size (h .nsources + h .ndeliveries)) e
+    go (refused r) oe e = deck-refused s code r oe e
+
+pub barleyhood-labels : (κ : _) (a : _) (code : ℕ) (x : _) → barleyhood-labels-call.Post κ a code x → Tells code (labelling (a .0 .now) (length (a .1 .0 .now)))
+barleyhood-labels κ a code x p = labels-tell (a .0 .now) (length (a .1 .0 .now)) code (p .0)

@@ -1,2 +1,3 @@
 pub mod Stands
+pub mod Codes
 pub mod MentionsStandElsewhere

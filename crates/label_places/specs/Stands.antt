@@ -8,7 +8,7 @@ use borrow.Author.Tests.{le-ltb}
 use lib.ListN.{length, getD, drop, length-take, length-drop}
 use Rattle.rules.specs.Calls as calls
 use Rattle.rules.specs.Calls.{sourcePart, sourcePartOf, deliveryPart, deliveryPartOf}
-use Rattle.rules.specs.Places.{partStart, sourceStart, deliveryStart}
+use Rattle.rules.specs.Places.{partStart, sourceStart, deliveryStart, placeCode}
 use Rattle.rules.specs.Reading.{reading}
 use Rattle.rules.specs.Refusals.{Outcome, accepted, refused}
 use Rattle.rules.specs.declared.Hour.{Hour}
@@ -24,6 +24,12 @@ pub record Stands (s : List ℕ) (start : ℕ) (part : List ℕ) (p : Place) : T
   pub within : p .upto ≤ length s
   pub small : p .upto ≤ 8192
   pub bytes : bytesOf s p ≡ part
+
+-- its place as one number
+pub stands-code : (s : List ℕ) (start : ℕ) (part : List ℕ) (p : Place) → Stands s start part p → placeCode (p .from) (p .upto - p .from) ≡ placeCode start (length part)
+stands-code s start part p e =
+    let n : p .upto - p .from ≡ length part = omega (arith, e .begins, e .ends) in
+    ap (λ (m : ℕ). placeCode m (p .upto - p .from)) (e .begins) ∙ ap (placeCode start) n
 
 -- One class of a scan.
 

@@ -3,10 +3,18 @@
 ghost use mathlib.Core.Path.{_≡_};
 ghost use Prim.Native.Nat.{_+_, _-_, _≤_};
 ghost use denote.Ref.{ptr};
-ghost use Rattle.rules.specs.Calls.{sourcePart, deliveryPart};
-ghost use Rattle.rules.specs.Places.{sourceStart, deliveryStart, placeCode, sourcePlace, deliveryPlace};
+ghost use mathlib.Core.List.{_++_};
+ghost use lib.ListN.{length};
+ghost use Rattle.rules.specs.Answers.{writtenOf};
+ghost use Rattle.rules.specs.Calls.{leaves, sourcePart, deliveryPart};
+ghost use Rattle.rules.specs.Places.{sourceStart, deliveryStart, placeCode, sourcePlace, deliveryPlace, labelling};
+ghost use Rattle.write_fields.specs.Inked.{Inked};
+ghost use Rattle.label_places.specs.Codes.{codes, CodesFit};
 ghost use Rattle.label_places.specs.Stands.{Stands};
 use deck::Place;
+use rules::Refusal;
+use rules::Verdict;
+use rules::Written;
 
 // Above every length: a place as one number is its start times this, and its length.
 const LENGTHS: u64 = 4_294_967_296;
@@ -79,4 +87,41 @@ pub fn delivery_place(s: &[u8], j: usize) -> u64
 {
     let p = delivery_at(s, j);
     code_of(p)
+}
+
+// All places at once.
+
+// The codes of the first n places, put from a number on.
+fn put_codes(out: &mut [u64], at: usize, places: [Place; 32], n: usize)
+    requires { ⌜ CodesFit at places n (now out) ⌝ }
+    ensures { λ _. ⌜ Inked (now (out .entry)) at (now (out .exit)) (at + n) (λ rest. codes places n ++ rest) ⌝ }
+{
+    let mut i = 0;
+    while i < n {
+        let p = places[i];
+        out[at + i] = code_of(p);
+        i += 1;
+    }
+}
+
+// Each source's place in deck order, and then each delivery's, into lent numbers: 1 to 11, then 14.
+pub fn all_places(s: &[u8], out: &mut [u64]) -> Written
+    ensures outcome { λ r. ⌜ r ≡ writtenOf (labelling (now (s .entry)) (length (now (out .entry)))) ⌝ }
+    ensures places { λ _. ⌜ now (out .exit) ≡ leaves (labelling (now (s .entry)) (length (now (out .entry)))) (now (out .entry)) ⌝ }
+{
+    let x = deck::scan(s);
+    let v = x.verdict;
+    if let Verdict::Refused(r) = v {
+        return Written::Refused(r);
+    }
+    let n = x.hour.nsources;
+    let m = x.hour.ndeliveries;
+    if out.len() < n + m {
+        return Written::Refused(Refusal::Short);
+    }
+    let sources = x.sources;
+    let deliveries = x.deliveries;
+    put_codes(out, 0, sources, n);
+    put_codes(out, n, deliveries, m);
+    Written::Count(n + m)
 }
