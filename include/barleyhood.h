@@ -2,7 +2,7 @@
 
    Every call reads a deck, the text that states the hour, lent as its first byte and its length. A null pointer is
    fine where the length is 0. Nothing is kept between calls and nothing is allocated, so calls may run side by side;
-   a call writes only into the cells or bytes lent to it, which must not overlap the deck. The report takes about 80 KiB of
+   a call writes only into the cells, bytes or numbers lent to it, which must not overlap the deck. The report takes about 80 KiB of
    the stack, a reconstruction 46 KiB, barleyhood_check 3 KiB, any other call 26 KiB.
 
    An answer below 2^32 is what was asked for. Any other is a refusal: its number times 2^32, and its place.
@@ -24,8 +24,8 @@ extern "C" {
 #define BARLEYHOOD_PLACE(answer) ((uint32_t)(answer))
 
 /* The numbers of the refusals, with the place of each: 0, a line of the deck, or a group by its internal number. barleyhood_check
-   tells 1 to 11, and so does every call that reads the deck but barleyhood_report and the two for labels; the reconstructions go on
-   with 14, then 12 or 13. 15 is of hour records, which no call here takes. */
+   tells 1 to 11, and so does every call that reads the deck but barleyhood_report and the two for one label; barleyhood_labels goes
+   on with 14, the reconstructions with 14, then 12 or 13. 15 is of hour records, which no call here takes. */
 enum {
     BARLEYHOOD_TOO_LONG = 1,     /* deck over 8,192 bytes: 0 */
     BARLEYHOOD_FORM = 2,         /* line not of its form or out of order, LF or E missing (empty deck: line 1): line */
@@ -83,6 +83,14 @@ uint64_t barleyhood_report(const uint8_t *deck, size_t length, uint8_t *text, si
 uint64_t barleyhood_source_label(const uint8_t *deck, size_t length, size_t source);
 uint64_t barleyhood_delivery_label(const uint8_t *deck, size_t length, size_t delivery);
 
+/* The same of all labels by one call, written from the first lent number on, and how many they are: each source's in deck order,
+   and then each delivery's. The lent numbers after them stay as they are. With fewer numbers lent than the deck has labels the
+   call is refused (14); BARLEYHOOD_LABELS are always enough. */
+uint64_t barleyhood_labels(const uint8_t *deck, size_t length, uint64_t *places, size_t lent);
+
+#define BARLEYHOOD_LABELS 64
+
+/* Of a label's place: the offset of its first byte, and its number of bytes. */
 #define BARLEYHOOD_OFFSET(label) ((uint32_t)((uint64_t)(label) >> 32))
 #define BARLEYHOOD_LENGTH(label) ((uint32_t)(label))
 

@@ -1,5 +1,5 @@
 /* The calls of include/barleyhood.h at their edges: null pointers, refusals, buffers too short and longer than the answer, labels that are there
-   and that are not. */
+   and that are not, one by one and all at once. */
 #include <stdio.h>
 #include <string.h>
 
@@ -46,6 +46,30 @@ static void label(const char *what, const char *deck, uint64_t got, const char *
     same(what, (uint8_t)deck[BARLEYHOOD_OFFSET(got) - 1], '"');
 }
 
+/* The places of all labels into so many numbers: each as the call for that label gives it, and past the count nothing may change. */
+static void labels(const char *what, const char *deck, size_t lent, uint64_t must) {
+    uint64_t places[BARLEYHOOD_LABELS + 8];
+    const size_t room = sizeof places / sizeof *places;
+    for (size_t i = 0; i < room; i++) places[i] = 77 + i;
+    same(what, barleyhood_labels(DECK(deck), places, lent), must);
+    const size_t count = BARLEYHOOD_NUMBER(must) ? 0 : (size_t)must, sources = count ? (size_t)barleyhood_sources(DECK(deck)) : 0;
+    for (size_t i = 0; i < room; i++)
+        same(what, places[i],
+             i >= count    ? 77 + i
+             : i < sources ? barleyhood_source_label(DECK(deck), i)
+                           : barleyhood_delivery_label(DECK(deck), i - sources));
+}
+
+/* A deck of so many sources and deliveries. */
+static const char *deck_of(int sources, int deliveries) {
+    static char deck[BARLEYHOOD_DECK];
+    int n = sprintf(deck, "H 0\n");
+    for (int i = 0; i < sources; i++) n += sprintf(deck + n, "F %d \"S%d\"\n", i, i);
+    for (int j = 0; j < deliveries; j++) n += sprintf(deck + n, "T 1 1 1 0 \"\\\"%d\"\n", j);
+    sprintf(deck + n, "E\n");
+    return deck;
+}
+
 /* A deck's report into a buffer one byte short of it, just as long, and longer. */
 static void report(const char *what, const char *deck, const char *must) {
     static uint8_t text[BARLEYHOOD_REPORT];
@@ -67,6 +91,9 @@ static void nothing_lent(void) {
     same("no deck, plain", barleyhood_plain(NULL, 0, NULL, 0), empty);
     same("no deck, source label", barleyhood_source_label(NULL, 0, 0), 0);
     same("no deck, delivery label", barleyhood_delivery_label(NULL, 0, 0), 0);
+    same("no deck, labels", barleyhood_labels(NULL, 0, NULL, 0), empty);
+    same("no labels", barleyhood_labels(DECK("H 0\nE\n"), NULL, 0), 0);
+    same("no numbers, labels", barleyhood_labels(DECK(SOURCES "E\n"), NULL, 0), REFUSAL(BARLEYHOOD_SHORT, 0));
     same("no deck, report", barleyhood_report(NULL, 0, NULL, 0), REFUSAL(BARLEYHOOD_SHORT, 0));
     same("no cells to write, price", barleyhood_price(DECK("H 0\nE\n"), NULL, 0), 0);
     same("no cells to write, plain", barleyhood_plain(DECK("H 0\nE\n"), NULL, 0), 0);
@@ -84,6 +111,8 @@ static void refusals(void) {
     same("used", barleyhood_sources(DECK("H 0\nF 1 \"X\"\nF 1 \"X\"\nE\n")), REFUSAL(BARLEYHOOD_USED, 3));
     same("overdrawn", barleyhood_deliveries(DECK("H 1\nE\n")), REFUSAL(BARLEYHOOD_OVERDRAWN, 0));
     same("refused, label", barleyhood_source_label(DECK("H 9\nF 1 \"X\"\nE\n"), 0), 0);
+    labels("refused, labels", "H 9\nF 1 \"X\"\nE\n", BARLEYHOOD_LABELS, REFUSAL(BARLEYHOOD_OVERDRAWN, 0));
+    labels("refused before 14, labels", "H 9\nF 1 \"X\"\nE\n", 0, REFUSAL(BARLEYHOOD_OVERDRAWN, 0));
     cells("missing E", "H 0\n", ROOM, REFUSAL(BARLEYHOOD_FORM, 2));
     cells("headroom", SOURCES "T 30 1 1 9 \"X\"\nD 30 100 \"U1\" \"X\"\nE\n", ROOM, REFUSAL(BARLEYHOOD_NO_HEADROOM, 300));
 }
@@ -107,6 +136,12 @@ static void answers(void) {
     same("no delivery 2", barleyhood_delivery_label(DECK(deck), 2), 0);
     same("no delivery 32", barleyhood_delivery_label(DECK(deck), 32), 0);
     same("no last source", barleyhood_source_label(DECK(deck), SIZE_MAX), 0);
+    labels("one number short, labels", deck, 3, REFUSAL(BARLEYHOOD_SHORT, 0));
+    labels("just enough, labels", deck, 4, 4);
+    labels("more than enough, labels", deck, BARLEYHOOD_LABELS + 8, 4);
+    labels("sources alone, labels", deck_of(3, 0), 3, 3);
+    labels("one number short of all labels", deck_of(32, 32), BARLEYHOOD_LABELS - 1, REFUSAL(BARLEYHOOD_SHORT, 0));
+    labels("all labels", deck_of(32, 32), BARLEYHOOD_LABELS, BARLEYHOOD_LABELS);
     report("report", deck,
            "hour 130 10 80 40\n"
            "\"X\" 300 \"U1\" 0 50 9750000000\n"

@@ -4,6 +4,7 @@ use Rattle.barleyhood.proofs.read.Reads as read-call
 use Rattle.barleyhood.proofs.check.Reads as check-call
 use Rattle.barleyhood.proofs.source_label.Reads as source-label-call
 use Rattle.barleyhood.proofs.delivery_label.Reads as delivery-label-call
+use Rattle.barleyhood.proofs.labels.Reads as labels-call
 use Rattle.barleyhood.proofs.report.Reads as report-call
 use Rattle.barleyhood.proofs.valid.Reads as valid-call
 use Rattle.barleyhood.proofs.write.Reads as write-call
@@ -21,6 +22,7 @@ use Rattle.barleyhood.proofs.linked.barleyhood_plain.Reads as barleyhoo
 use Rattle.barleyhood.proofs.linked.barleyhood_report.Reads as barleyhood-report-call
 use Rattle.barleyhood.proofs.linked.barleyhood_source_label.Reads as barleyhood-source-label-call
 use Rattle.barleyhood.proofs.linked.barleyhood_delivery_label.Reads as barleyhood-delivery-label-call
+use Rattle.barleyhood.proofs.linked.barleyhood_labels.Reads as barleyhood-labels-call
 
 abbrev pub AsksNothing : {K : Type 0} {A : K → Type 0} → ((κ : K) → A κ → Type 0) → Type 0
 AsksNothing {K} {A} asked = (κ : K) (a : A κ) → asked κ a
@@ -36,6 +38,9 @@ source-label κ a = tt
 
 pub delivery-label : AsksNothing delivery-label-call.Asked
 delivery-label κ a = tt
+
+pub labels : AsksNothing labels-call.Asked
+labels κ a = tt
 
 pub report : AsksNothing report-call.Asked
 report κ a = tt
@@ -87,3 +92,6 @@ barleyhood-source-label κ a = tt
 
 pub barleyhood-delivery-label : AsksNothing barleyhood-delivery-label-call.Asked
 barleyhood-delivery-label κ a = tt
+
+pub barleyhood-labels : AsksNothing barleyhood-labels-call.Asked
+barleyhood-labels κ a = tt

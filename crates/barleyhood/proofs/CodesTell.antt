@@ -1,26 +1,30 @@
 -- The one number that a function for C gives back tells what the call came to. Below 2^32 it was accepted; from there on the number over 2^32 is the
 -- refusal's number, and what is left its place. Of a label, the number over 2^32 is where its bytes start, and what is left how many they are.
 use mathlib.Core.Bool.{Bool, true, false}
-use mathlib.Core.List.{List}
+use mathlib.Core.List.{List, [], _∷_}
 use mathlib.Core.Path.{_≡_, refl, ap, _∙_}
 use Prim.Native.Nat.{ℕ, _+_, _*_, _/_, _%_, _<_, _≤_}
-use native.Mathlib.Decide.{decLt}
 use native.Mathlib.Omega.{arith}
+use borrow.Author.Tests.{ltb-true}
 use lib.Dec.{ltb}
 use lib.IntN.{ℤ}
-use lib.ListN.{length}
+use lib.ListN.{length, length-append}
 use Rattle.rules.specs.Calls as calls
-use Rattle.rules.specs.Calls.{reconstruction, reporting, sourcePart, deliveryPart}
+use Rattle.rules.specs.Calls.{reconstruction, reporting, sourcePart, sourcePartOf, deliveryPart, deliveryPartOf}
+use Rattle.rules.specs.Places as places
+use Rattle.rules.specs.Places.{sourceStart, deliveryStart, sourcePlace, deliveryPlace, labelPlaces, labelling}
 use Rattle.rules.specs.Reading.{reading}
 use Rattle.rules.specs.Refusals.{Outcome, accepted, refused, refuse, andThen, numberOf, placeOf}
 use Rattle.rules.specs.Report.{report}
+use Rattle.rules.specs.Words.{if_then_else_, listTo}
 use Rattle.rules.specs.declared.Hour.{Hour}
 use Rattle.rules.specs.declared.Refusal.{Refusal}
 use Rattle.rules.specs.declared.Refusal.the-variants.{Short}
+use Rattle.roundtrip.specs.DeckRoundTrip.{accepted-is-valid}
 use Rattle.roundtrip.specs.GivenHour.{accepted-given}
+use Rattle.laws.specs.Sums.{listTo-length}
 use Rattle.refusals.specs.Codes.{codeOf}
-use Rattle.label_places.specs.Places.{sourceStart, deliveryStart}
-use Rattle.label_places.specs.Walk.{source-told, delivery-told}
+use Rattle.print_report.specs.LabelsShort.{labels-short}
 use Rattle.print_report.specs.ReportFits.{report-fits}
 use Rattle.outcomes.specs.AccountsCloseOverTheCells.{accepted-whole}
 use Rattle.outcomes.specs.CodesTell.{deck-told, cells-told, number-least}
@@ -34,6 +38,7 @@ use Rattle.barleyhood.proofs.linked.barleyhood_plain.Reads as barleyhoo
 use Rattle.barleyhood.proofs.linked.barleyhood_report.Reads as barleyhood-report-call
 use Rattle.barleyhood.proofs.linked.barleyhood_source_label.Reads as barleyhood-source-label-call
 use Rattle.barleyhood.proofs.linked.barleyhood_delivery_label.Reads as barleyhood-delivery-label-call
+use Rattle.barleyhood.proofs.linked.barleyhood_labels.Reads as barleyhood-labels-call
 
 abbrev pub Tells : {A : Type 0} → ℕ → Outcome A → Type 0
 Tells code (accepted v) = code < 4_294_967_296
@@ -101,11 +106,31 @@ barleyhood-report κ a code x p = report-tells (a .0 .now) (length (a .1 .0 .now
 
 -- Its labels.
 
--- a part with bytes has few
-few : (part : List ℕ) → ((length part ≡ 0 → ⊥) → length part ≤ 8192) → length part ≤ 8192
-few part l = elim (decLt 0 (length part)) [ yes k ↦ l (λ z. omega arith) | no k ↦ omega arith ]
+-- a label has few bytes
+few : (text : List ℕ) (i n : ℕ) → (i < n → length text ≤ 32) → length (if ltb i n then text else []) ≤ 32
+few text i n l = go (ltb i n) refl
+  where
+    go : (b : Bool) → ltb i n ≡ b → length (if b then text else []) ≤ 32
+    go true e = l (ltb-true i n e)
+    go false e = omega arith
 
-start-told : (start n code : ℕ) → n ≤ 8192 → code ≡ start * 4_294_967_296 + n → (code / 4_294_967_296 ≡ start) × (code % 4_294_967_296 ≡ n)
+source-few : (s : List ℕ) (i : ℕ) → length (sourcePart s i) ≤ 32
+unfolding calls.sourcePart
+source-few s i = go (reading s) refl
+  where
+    go : (o : Outcome Hour) → reading s ≡ o → length (sourcePartOf o i) ≤ 32
+    go (accepted h) e = few _ i (h .nsources) (labels-short h (accepted-is-valid s h e) .sources i)
+    go (refused r) e = omega arith
+
+delivery-few : (s : List ℕ) (j : ℕ) → length (deliveryPart s j) ≤ 32
+unfolding calls.deliveryPart
+delivery-few s j = go (reading s) refl
+  where
+    go : (o : Outcome Hour) → reading s ≡ o → length (deliveryPartOf o j) ≤ 32
+    go (accepted h) e = few _ j (h .ndeliveries) (labels-short h (accepted-is-valid s h e) .deliveries j)
+    go (refused r) e = omega arith
+
+start-told : (start n code : ℕ) → n ≤ 32 → code ≡ start * 4_294_967_296 + n → (code / 4_294_967_296 ≡ start) × (code % 4_294_967_296 ≡ n)
 start-told start n code l e = (omega arith, omega arith)
 
 pub barleyhood-source-label : (κ : _) (a : _) (code : ℕ) (x : _) → barleyhood-source-label-call.Post κ a code x
@@ -113,11 +138,36 @@ pub barleyhood-source-label : (κ : _) (a : _) (code : ℕ) (x : _) → barleyho
 barleyhood-source-label κ a code x =
     let s = a .0 .now in
     let i = a .1 .0 in
-    start-told (sourceStart s i) (length (sourcePart s i)) code (few (sourcePart s i) λ some. source-told s i (sourcePart s i) some refl .small)
+    start-told (sourceStart s i) (length (sourcePart s i)) code (source-few s i)
 
 pub barleyhood-delivery-label : (κ : _) (a : _) (code : ℕ) (x : _) → barleyhood-delivery-label-call.Post κ a code x
     → (code / 4_294_967_296 ≡ deliveryStart (a .0 .now) (a .1 .0)) × (code % 4_294_967_296 ≡ length (deliveryPart (a .0 .now) (a .1 .0)))
 barleyhood-delivery-label κ a code x =
     let s = a .0 .now in
     let j = a .1 .0 in
-    start-told (deliveryStart s j) (length (deliveryPart s j)) code (few (deliveryPart s j) λ some. delivery-told s j (deliveryPart s j) some refl .small)
+    start-told (deliveryStart s j) (length (deliveryPart s j)) code (delivery-few s j)
+
+-- All of them.
+
+labels-few : (s : List ℕ) (h : Hour) → reading s ≡ accepted h → length (labelPlaces s h) ≤ 64
+labels-few s h e =
+    let xs = listTo (λ i. sourcePlace s i ∷ []) (h .nsources) in
+    let ys = listTo (λ j. deliveryPlace s j ∷ []) (h .ndeliveries) in
+    let g = accepted-given s h e in
+    omega (arith, length-append xs ys, listTo-length (λ i. sourcePlace s i ∷ []) 1 (λ k. refl) (h .nsources), listTo-length (λ j. deliveryPlace s j ∷ []) 1 (λ k. refl) (h .ndeliveries), g .sources .few, g .deliveries .few)
+
+labels-tell : (s : List ℕ) (size code : ℕ) → code ≡ writtenCode (labelling s size) → Tells code (labelling s size)
+unfolding places.labelling
+labels-tell s size code e = go (reading s) refl e
+  where
+    of : (h : Hour) → reading s ≡ accepted h → (b : Bool) → code ≡ writtenCode (refuse b Short (accepted (labelPlaces s h))) → Tells code (refuse b Short (accepted (labelPlaces s h)))
+    of h oe true e = (omega (arith, e), omega (arith, e))
+    of h oe false e = omega (arith, e, labels-few s h oe)
+
+    go : (o : Outcome Hour) → reading s ≡ o → code ≡ writtenCode (andThen o λ h. refuse (ltb size (h .nsources + h .ndeliveries)) Short (accepted (labelPlaces s h)))
+        → Tells code (andThen o λ h. refuse (ltb size (h .nsources + h .ndeliveries)) Short (accepted (labelPlaces s h)))
+    go (accepted h) oe e = of h oe (ltb size (h .nsources + h .ndeliveries)) e
+    go (refused r) oe e = deck-refused s code r oe e
+
+pub barleyhood-labels : (κ : _) (a : _) (code : ℕ) (x : _) → barleyhood-labels-call.Post κ a code x → Tells code (labelling (a .0 .now) (length (a .1 .0 .now)))
+barleyhood-labels κ a code x p = labels-tell (a .0 .now) (length (a .1 .0 .now)) code (p .0)

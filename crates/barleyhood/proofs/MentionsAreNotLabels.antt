@@ -5,8 +5,8 @@ use mathlib.Core.Path.{_≡_, sym, ap, _∙_}
 use Prim.Native.Nat.{ℕ, _+_}
 use native.Mathlib.Omega.{arith}
 use denote.Ref.{RefT}
+use Rattle.rules.specs.Places.{sourceStart, deliveryStart}
 use Rattle.label_places.specs.MentionsStandElsewhere.{mentioning, unitMention, deliveryMention, elsewhere}
-use Rattle.label_places.specs.Places.{sourceStart, deliveryStart}
 use Rattle.barleyhood.proofs.source_label.Reads as source-label-call
 use Rattle.barleyhood.proofs.delivery_label.Reads as delivery-label-call
 

@@ -9,6 +9,7 @@ use Rattle.barleyhood.proofs.read.Reads as read-call
 use Rattle.barleyhood.proofs.check.Reads as check-call
 use Rattle.barleyhood.proofs.source_label.Reads as source-label-call
 use Rattle.barleyhood.proofs.delivery_label.Reads as delivery-label-call
+use Rattle.barleyhood.proofs.labels.Reads as labels-call
 use Rattle.barleyhood.proofs.report.Reads as report-call
 use Rattle.barleyhood.proofs.valid.Reads as valid-call
 use Rattle.barleyhood.proofs.write.Reads as write-call
@@ -26,6 +27,7 @@ use Rattle.barleyhood.proofs.linked.barleyhood_plain.Reads as barleyhoo
 use Rattle.barleyhood.proofs.linked.barleyhood_report.Reads as barleyhood-report-call
 use Rattle.barleyhood.proofs.linked.barleyhood_source_label.Reads as barleyhood-source-label-call
 use Rattle.barleyhood.proofs.linked.barleyhood_delivery_label.Reads as barleyhood-delivery-label-call
+use Rattle.barleyhood.proofs.linked.barleyhood_labels.Reads as barleyhood-labels-call
 
 -- on the same arguments, what the first contract allows and what the second allows are the same in all that is seen of it
 abbrev pub Same : {K O : Type 0} {A R X : K → Type 0} → (first second : (κ : K) → A κ → R κ → X κ → Type 0) → (seen : (κ : K) → R κ → X κ → O) → Type 0
@@ -54,6 +56,9 @@ source-label κ a r q x y = both
 
 pub delivery-label : OneOutcome {O = List ℕ × (ℕ × ℕ)} delivery-label-call.Post (λ κ r x. (r .now, r .ptr))
 delivery-label κ a r q x y = both
+
+pub labels : OneOutcome {O = Written × List ℕ} labels-call.Post (λ κ r x. (r, x .1 .0 .now))
+labels κ a r q x y = both
 
 pub report : OneOutcome {O = Written × List ℕ} report-call.Post (λ κ r x. (r, x .1 .0 .now))
 report κ a r q x y = both
@@ -111,3 +116,6 @@ barleyhood-source-label κ a r q x y = one
 
 pub barleyhood-delivery-label : OneOutcome barleyhood-delivery-label-call.Post (λ κ r x. r)
 barleyhood-delivery-label κ a r q x y = one
+
+pub barleyhood-labels : OneOutcome {O = ℕ × List ℕ} barleyhood-labels-call.Post (λ κ r x. (r, x .1 .0 .now))
+barleyhood-labels κ a r q x y = both

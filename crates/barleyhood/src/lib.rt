@@ -8,12 +8,12 @@ ghost use lib.ListN.{length};
 ghost use denote.Ref.{ptr};
 ghost use Rattle.rules.specs.Answers.{verdictOf, writtenOf, curveAnswer, costAnswer};
 ghost use Rattle.rules.specs.Calls.{writing, reconstruction, reporting, leaves, sourcePart, deliveryPart};
+ghost use Rattle.rules.specs.Places.{sourceStart, deliveryStart, labelling};
 ghost use Rattle.rules.specs.Reading.{reading};
 ghost use Rattle.rules.specs.Refusals.{numberOf, placeOf};
 ghost use Rattle.rules.specs.Units.{curveMade, costAsked};
 ghost use Rattle.rules.specs.Writing as given;
 ghost use Rattle.deck.specs.Answers.{readAnswer};
-ghost use Rattle.label_places.specs.Places.{sourceStart, deliveryStart};
 pub use deck::ReadHour;
 pub use rules::Basis;
 pub use rules::CostAnswer;
@@ -62,6 +62,14 @@ pub fn delivery_label<'a>(s: &'a [u8], j: usize) -> &'a [u8]
     ensures place { λ r. ⌜ ptr r ≡ (ptr (s .entry) .0, deliveryStart (now (s .entry)) j + ptr (s .entry) .1) ⌝ }
 {
     label_places::delivery_label(s, j)
+}
+
+// Where all labels stand, each source's in deck order and then each delivery's, into lent numbers: where its own bytes start, times 2^32, and how many they are. 1 to 11, then 14.
+pub fn labels(s: &[u8], out: &mut [u64]) -> Written
+    ensures outcome { λ r. ⌜ r ≡ writtenOf (labelling (now (s .entry)) (length (now (out .entry)))) ⌝ }
+    ensures places { λ _. ⌜ now (out .exit) ≡ leaves (labelling (now (s .entry)) (length (now (out .entry)))) (now (out .entry)) ⌝ }
+{
+    label_places::all_places(s, out)
 }
 
 // The deck's report as text into lent bytes: 14 where it does not fit. A deck that is refused has a report too.

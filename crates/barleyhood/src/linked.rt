@@ -1,12 +1,11 @@
 // The calls for C: on numbers and slices, each a pointer and a length. include/barleyhood.h says what a caller needs to know.
-// An answer is a count or refusals' codeOf of a refusal, which is 2^32 or more, or a label's place. The contracts cite rules' definitions, Linked for the answer
-// and label_places' for a label's place.
+// An answer is a count or refusals' codeOf of a refusal, which is 2^32 or more, or a label's place. The contracts cite rules' definitions, and Linked for the answer.
 ghost use mathlib.Core.Path.{_≡_};
 ghost use lib.ListN.{length};
 ghost use Rattle.rules.specs.Calls.{reporting, leaves};
+ghost use Rattle.rules.specs.Places.{sourcePlace, deliveryPlace, labelling};
 ghost use Rattle.rules.specs.Reading.{reading};
 ghost use Rattle.barleyhood.specs.Linked.{checkCode, sourcesCode, deliveriesCode, cellsOfDeck, writtenCode, answerCode};
-ghost use Rattle.label_places.specs.Places.{sourcePlace, deliveryPlace};
 use rules::Verdict;
 use rules::Written;
 
@@ -112,4 +111,13 @@ pub extern "C" fn barleyhood_delivery_label(s: &[u8], j: usize) -> u64
     ensures { λ r. ⌜ r ≡ deliveryPlace (now (s .entry)) j ⌝ }
 {
     label_places::delivery_place(s, j)
+}
+
+// The places of all labels, each source's and then each delivery's, and how many they are.
+#[no_mangle]
+pub extern "C" fn barleyhood_labels(s: &[u8], out: &mut [u64]) -> u64
+    ensures code { λ r. ⌜ r ≡ writtenCode (labelling (now (s .entry)) (length (now (out .entry)))) ⌝ }
+    ensures places { λ _. ⌜ now (out .exit) ≡ leaves (labelling (now (s .entry)) (length (now (out .entry)))) (now (out .entry)) ⌝ }
+{
+    written_code(label_places::all_places(s, out))
 }

@@ -1,13 +1,14 @@
 -- What the deck's readers answer where the rules say what a deck comes to.
 use mathlib.Core.Path.{_≡_, refl, ap, sym, _∙_}
 use mathlib.Core.List.{List}
-use Prim.Native.Nat.{ℕ, _≤_}
+use Prim.Native.Nat.{ℕ, _+_, _≤_}
 use lib.ListN.{length, getD, replicate}
 use Rattle.rules.specs.Answers.{verdictOf}
 use Rattle.rules.specs.Refusals.{Outcome, accepted, refused}
 use Rattle.rules.specs.Fields.{bytesAt}
 use Rattle.rules.specs.Record.{started}
 use Rattle.rules.specs.Calls.{sourcePartOf, deliveryPartOf}
+use Rattle.rules.specs.Places.{labelStart, partStart, sourcesOf}
 use Rattle.rules.specs.declared.Hour.{Hour}
 use Rattle.rules.specs.declared.Refusal.{Refusal}
 use Rattle.rules.specs.declared.Verdict.the-variants.{Accepted, Refused}
@@ -52,16 +53,17 @@ pub record Holds (s : List ℕ) (part : List ℕ) (p : Place) : Type 0 where
   pub within : p .upto ≤ length s
   pub bytes : bytesOf s p ≡ part
 
--- the places of one class's labels, each with the part that is asked for by its number
-pub record Placed (s : List ℕ) (part : ℕ → List ℕ) (ps : List Place) : Type 0 where
+-- the places of one class's labels, each with the part that is asked for by its number, and where that label starts
+pub record Placed (s : List ℕ) (part : ℕ → List ℕ) (start : ℕ → ℕ) (ps : List Place) : Type 0 where
   pub size : length ps ≡ 32
   pub each : (i : ℕ) → Holds s (part i) (getD ps i nowhere)
+  pub starts : (i : ℕ) → getD ps i nowhere .from ≡ partStart (start i) (length (part i))
 
 -- what a deck comes to, and where its labels stand
 pub record Scanned (s : List ℕ) (t : Outcome Hour) (r : ScannedDeck) : Type 0 where
   pub answer : record { verdict = r .verdict; hour = r .hour } ≡ readAnswer t
-  pub sources : Placed s (sourcePartOf t) (r .sources)
-  pub deliveries : Placed s (deliveryPartOf t) (r .deliveries)
+  pub sources : Placed s (sourcePartOf t) (λ i. labelStart s (i + 1)) (r .sources)
+  pub deliveries : Placed s (deliveryPartOf t) (λ j. labelStart s (sourcesOf t + j + 1)) (r .deliveries)
 
 abbrev pub refusedScan : Refusal → ScannedDeck
 refusedScan r = record { verdict = Refused r; hour = started 0; sources = replicate 32 nowhere; deliveries = replicate 32 nowhere }

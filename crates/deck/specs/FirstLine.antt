@@ -1,5 +1,6 @@
 -- 1 and the first line, and what a deck comes to by them and the lines after.
 use mathlib.Core.List.{List}
+use mathlib.Core.Path.{_≡_}
 use Prim.Native.Nat.{ℕ}
 use lib.Dec.{ltb}
 use lib.ListN.{length}
@@ -8,6 +9,7 @@ use Rattle.rules.specs.Words.{if_then_else_}
 use Rattle.rules.specs.Refusals.{Outcome, accepted, refused}
 use Rattle.rules.specs.Fields.{Field, got, malformed}
 use Rattle.rules.specs.Lines.{Line, lineAt}
+use Rattle.rules.specs.Places.{lineStart}
 use Rattle.rules.specs.Record.{started}
 use Rattle.rules.specs.Reading.{headed, linesFrom}
 use Rattle.rules.specs.declared.Hour.{Hour}
@@ -48,3 +50,7 @@ rowsBy s at losses (Refused r) = refused r
 
 abbrev pub rowsAfter : List ℕ → ℕ → HeadStep → Outcome Hour
 rowsAfter s at x = rowsBy s at (x .losses) (x .verdict)
+
+-- such a place is where the line after an accepted first one starts
+abbrev pub Follows : List ℕ → ℕ → HeadStep → Type 0
+Follows s at x = x .verdict ≡ Accepted → at ≡ lineStart s 1

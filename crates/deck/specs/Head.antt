@@ -9,15 +9,19 @@ use lib.Dec.{ltb, eqb}
 use lib.ListN.{length}
 use borrow.Author.Tests.{lt-ltb, le-ltb, eqb-true}
 use Rattle.rules.specs.Words.{if_then_else_}
-use Rattle.rules.specs.Refusals.{accepted, refused, refuse, andThen}
+use Rattle.rules.specs.Refusals.{Outcome, accepted, refused, refuse, andThen}
 use Rattle.rules.specs.Fields as fields
 use Rattle.rules.specs.Fields.{Field, got, malformed, onField, byte, byteAt, Chars}
 use Rattle.rules.specs.Lines as lines
-use Rattle.rules.specs.Lines.{Letter, H, U, P, F, T, D, E, Fields, fieldsOf, seen, ranged, letterOf, line, placesAt, lineFrom, lineAt}
+use Rattle.rules.specs.Lines.{Letter, H, U, P, F, T, D, E, Fields, fieldsOf, seen, ranged, letterOf, Line, line, placesAt, lineFrom, lineAt}
+use Rattle.rules.specs.Places as places
 use Rattle.rules.specs.Record.{started}
 use Rattle.rules.specs.Reading as reading-of
 use Rattle.rules.specs.Reading.{headed, headedAs, onLine, linesFrom, reading}
 use Rattle.rules.specs.declared.Refusal.the-variants.{TooLong, Form, Range}
+use Rattle.rules.specs.declared.Hour.{Hour}
+use Rattle.roundtrip.specs.LabelsStart.{next-starts}
+use Rattle.roundtrip.specs.Taken.{headed-passed}
 use Rattle.read_fields.specs.Answers.{cut, stepOf}
 use Rattle.read_fields.specs.declared.Step.the-variants.{At, Missing}
 use Rattle.read_lines.specs.Answers.{headLine}
@@ -27,7 +31,7 @@ use Rattle.ranges.specs.Inside.{lossesInside}
 use Rattle.ranges.specs.RangedIsInside.{losses-inside}
 use Rattle.rules.specs.declared.Verdict.the-variants.{Accepted}
 use Rattle.deck.specs.Turns.{line-got, line-malformed}
-use Rattle.deck.specs.FirstLine.{headRefused, headTaken, headLined, headStep, rowsAfter}
+use Rattle.deck.specs.FirstLine.{headRefused, headTaken, headLined, headStep, rowsAfter, Follows}
 use Rattle.deck.specs.declared.HeadStep.{HeadStep}
 
 -- 1, and what comes after it.
@@ -55,7 +59,7 @@ rows-after-head s = by-length (ltb 8192 (length s))
     by-letter D v next = refl
     by-letter E v next = refl
 
-    by-line : (x : Field lines.Line) → rowsAfter s (headLined x .next) (headLined x) ≡ onLine x (Form 1) λ l next. andThen (headed l) λ h. linesFrom (length s) s h next
+    by-line : (x : Field Line) → rowsAfter s (headLined x .next) (headLined x) ≡ onLine x (Form 1) λ l next. andThen (headed l) λ h. linesFrom (length s) s h next
     by-line (got l next) = by-letter (l .letter) (l .fields) next
     by-line malformed = refl
 
@@ -64,6 +68,23 @@ rows-after-head s = by-length (ltb 8192 (length s))
         rowsAfter s (x .next) x ≡ refuse z TooLong (onLine (lineAt s 0) (Form 1) λ l next. andThen (headed l) λ h. linesFrom (length s) s h next)
     by-length true = refl
     by-length false = by-line (lineAt s 0)
+
+-- and such is the place that it tells
+pub head-follows : (s : List ℕ) → Follows s (headStep s 0 .next) (headStep s 0)
+unfolding places.lineStart
+head-follows s = by-length (ltb 8192 (length s))
+  where
+    by-head : (l : Line) (next : ℕ) → lineAt s 0 ≡ got l next → (o : Outcome Hour) → headed l ≡ o → Follows s (headTaken o next .next) (headTaken o next)
+    by-head l next e (accepted h) oe v = next-starts l s 0 next e (headed-passed l h oe .within)
+    by-head l next e (refused r) oe v = let z : _≡_ {A = ℕ} 0 1 = cc in absurd (omega arith)
+
+    by-line : (x : Field Line) → lineAt s 0 ≡ x → Follows s (headLined x .next) (headLined x)
+    by-line (got l next) e = by-head l next e (headed l) refl
+    by-line malformed e = λ v. let z : _≡_ {A = ℕ} 0 1 = cc in absurd (omega arith)
+
+    by-length : (z : Bool) → let x = if z then headRefused TooLong else headLined (lineAt s 0) in Follows s (x .next) x
+    by-length true = λ v. let z : _≡_ {A = ℕ} 0 1 = cc in absurd (omega arith)
+    by-length false = by-line (lineAt s 0) refl
 
 pub rows-after-told : (s : List ℕ) (x : HeadStep) → x ≡ headStep s 0 → rowsAfter s (x .next) x ≡ reading s
 rows-after-told s x e = ap (λ (x : HeadStep). rowsAfter s (x .next) x) e ∙ rows-after-head s

@@ -10,9 +10,10 @@ use lib.Seq.{take-append-seam}
 use Rattle.rules.specs.Fields as fields
 use Rattle.rules.specs.Fields.{Field, got, malformed, onField, byteAt, escape, unescape, labelEnd, Place, bytesAt, charsAt, labelFrom, spacedNumber, spacedLabel, spacedBasis}
 use Rattle.rules.specs.Lines as lines
-use Rattle.rules.specs.Lines.{Kind, number, basis, label, Letter, Fields, fieldsOf, push, fieldsAt, placesAt}
+use Rattle.rules.specs.Lines.{Kind, number, basis, label, Letter, Fields, fieldsOf, fieldsAt, placesAt}
 use Rattle.laws.specs.Choices.{malformed-not-got, field-passed}
 use Rattle.laws.specs.Lists.{drop-past-one}
+use Rattle.roundtrip.specs.Fields.{more-stood}
 use Rattle.roundtrip.specs.Labels.{label-stood, unescape-escape}
 
 abbrev pub Escaped : List ℕ → Place → Type 0
@@ -45,28 +46,16 @@ LabelsEscaped s (number x ∷ ks) v = LabelsEscaped s ks (v .1)
 LabelsEscaped s (basis x ∷ ks) v = LabelsEscaped s ks (v .1)
 LabelsEscaped s (label ∷ ks) v = Escaped s (v .0) × LabelsEscaped s ks (v .1)
 
-pushed : {A B : Type 0} (a : A) (g : Field B) (v : A × B) (n : ℕ) → push a g ≡ got v n → (a ≡ v .0) × (g ≡ got (v .1) n)
-pushed a (got b m) v n e =
-    let p : a ≡ v .0 = cc in
-    let q : b ≡ v .1 = cc in
-    let k : m ≡ n = cc in
-    (p, rw (q, k))
-pushed a malformed v n e = malformed-not-got v n e
-
 module _ (s : List ℕ) where
   fields-escaped : (ks : List Kind) (at : ℕ) (v : Fields Place ks) (n : ℕ) → fieldsAt ks s at ≡ got v n → LabelsEscaped s ks v
   unfolding lines.fieldsAt
   fields-escaped [] at v n e = tt
   fields-escaped (number x ∷ ks) at v n e =
-      let p = field-passed (spacedNumber s at) (λ v next. push v (fieldsAt ks s next)) v n e in
-      fields-escaped ks (p .place) (v .1) n (pushed (p .mid) (fieldsAt ks s (p .place)) v n (p .second) .1)
+      let p = more-stood spacedNumber (fieldsAt ks s) s at v n e in fields-escaped ks (p .place) (v .1) n (p .second)
   fields-escaped (basis x ∷ ks) at v n e =
-      let p = field-passed (spacedBasis s at) (λ v next. push v (fieldsAt ks s next)) v n e in
-      fields-escaped ks (p .place) (v .1) n (pushed (p .mid) (fieldsAt ks s (p .place)) v n (p .second) .1)
+      let p = more-stood spacedBasis (fieldsAt ks s) s at v n e in fields-escaped ks (p .place) (v .1) n (p .second)
   fields-escaped (label ∷ ks) at v n e =
-      let p = field-passed (spacedLabel s at) (λ v next. push v (fieldsAt ks s next)) v n e in
-      let q = pushed (p .mid) (fieldsAt ks s (p .place)) v n (p .second) in
-      (label-escaped s at (v .0) (p .place) (p .first ∙ ap (λ (x : Place). got x (p .place)) (q .0)), fields-escaped ks (p .place) (v .1) n (q .1))
+      let p = more-stood spacedLabel (fieldsAt ks s) s at v n e in (label-escaped s at (v .0) (p .place) (p .first), fields-escaped ks (p .place) (v .1) n (p .second))
 
   pub line-escaped : (l : Letter) (at : ℕ) (v : Fields Place (fieldsOf l)) (next : ℕ) → placesAt s at l ≡ got v next → LabelsEscaped s (fieldsOf l) v
   unfolding lines.placesAt

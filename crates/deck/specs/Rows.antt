@@ -3,13 +3,13 @@ use mathlib.Core.Path.{_≡_, refl, ap, sym, subst, _∙_}
 use mathlib.Core.Bool.{Bool, true, false}
 use mathlib.Core.List.{List, []}
 use mathlib.Core.Option.{some}
-use Prim.Native.Nat.{ℕ, zero, suc, _+_, _<_, _≤_}
+use Prim.Native.Nat.{ℕ, zero, suc, _+_, _-_, _<_, _≤_}
 use native.Mathlib.Decide.{ℕ-discrete}
 use native.Mathlib.Omega.{arith}
 use lib.Dec.{ltb, eqb}
-use lib.ListN.{length, getD, set, replicate, length-set, List·getD-eq-default}
+use lib.ListN.{length, getD, drop, set, replicate, length-set, List·getD-eq-default}
 use lib.Seq.{getD-set-same, getD-set-other}
-use borrow.Author.Tests.{lt-ltb, le-ltb, ltb-true, ltb-false, eqb-true, eq-eqb}
+use borrow.Author.Tests.{lt-ltb, le-ltb, ltb-true, ltb-false, eqb-true, eq-eqb, ne-eqb}
 use Rattle.rules.specs.Words.{if_then_else_}
 use Rattle.rules.specs.Answers.{verdictOf}
 use Rattle.rules.specs.Refusals.{Outcome, accepted, refused}
@@ -21,6 +21,8 @@ use Rattle.rules.specs.Record as record-of
 use Rattle.rules.specs.Record.{chars, noSource, started, withSource, withDelivery, withDirect}
 use Rattle.rules.specs.Reading.{lineNumber, finished, linesFrom}
 use Rattle.rules.specs.Calls.{sourcePartOf, deliveryPartOf}
+use Rattle.rules.specs.Places as places
+use Rattle.rules.specs.Places.{past, lineStart, labelStart, partStart}
 use Rattle.rules.specs.declared.Label.{Label}
 use Rattle.rules.specs.declared.Source.{Source}
 use Rattle.rules.specs.declared.Delivery.{Delivery}
@@ -55,27 +57,37 @@ getD-same (suc n) zero a = refl
 getD-same (suc n) (suc i) a = getD-same n i a
 
 module _ (s : List ℕ) where
-  placed-none : (part : ℕ → List ℕ) → ((i : ℕ) → part i ≡ []) → Placed s part (replicate 32 nowhere)
-  placed-none part empty =
+  placed-none : (part : ℕ → List ℕ) (start : ℕ → ℕ) → ((i : ℕ) → part i ≡ []) → Placed s part start (replicate 32 nowhere)
+  placed-none part start empty =
       record {
         size = refl;
         each = λ i. rw (getD-same 32 i nowhere) (record { order = omega arith; within = omega arith; bytes = sym (empty i) });
+        starts = λ i. rw (getD-same 32 i nowhere, empty i);
       }
+
+  -- where no part has bytes, the labels may start anywhere
+  placed-still : (part : ℕ → List ℕ) (start other : ℕ → ℕ) (ps : List Place) → ((i : ℕ) → part i ≡ []) → Placed s part start ps → Placed s part other ps
+  placed-still part start other ps empty e =
+      record { size = e .size; each = e .each; starts = λ i. e .starts i ∙ ap (λ (p : List ℕ). partStart (start i) (length p)) (empty i) ∙ ap (λ (p : List ℕ). partStart (other i) (length p)) (sym (empty i)) }
 
   -- the labels of the first n entries of a class
   module _ {A : Type 0} (label : A → Label) (default : A) where
     abbrev partOf : List A → ℕ → ℕ → List ℕ
     partOf xs n i = if ltb i n then escape (chars (label (getD xs i default))) else []
 
-    placed-more : (xs : List A) (n : ℕ) (x : A) (ps : List Place) (p : Place) → n < 32 → length xs ≡ 32 → Holds s (escape (chars (label x))) p → Placed s (partOf xs n) ps
-        → Placed s (partOf (set xs n x) (n + 1)) (set ps n p)
-    placed-more xs n x ps p lt size holds e =
+    placed-more : (xs : List A) (n : ℕ) (x : A) (start : ℕ → ℕ) (ps : List Place) (p : Place) → n < 32 → length xs ≡ 32 → Holds s (escape (chars (label x))) p
+        → p .from ≡ partStart (start n) (length (escape (chars (label x)))) → Placed s (partOf xs n) start ps → Placed s (partOf (set xs n x) (n + 1)) start (set ps n p)
+    placed-more xs n x start ps p lt size holds begins e =
         let l = e .size in
         record {
           size = simp length-set (e .size);
           each = λ i. elim (ℕ-discrete i n) [
             | yes k ↦ rw (k, getD-set-same ps n p nowhere (omega arith), getD-set-same xs n x default (omega arith), lt-ltb n (n + 1) (omega arith)) holds
             | no k ↦ rw (getD-set-other ps n i p nowhere (λ q. k (q)), getD-set-other xs n i x default (λ q. k (q)), still i k) (e .each i)
+          ];
+          starts = λ i. elim (ℕ-discrete i n) [
+            | yes k ↦ rw (k, getD-set-same ps n p nowhere (omega arith), getD-set-same xs n x default (omega arith), lt-ltb n (n + 1) (omega arith)) begins
+            | no k ↦ rw (getD-set-other ps n i p nowhere (λ q. k (q)), getD-set-other xs n i x default (λ q. k (q)), still i k) (e .starts i)
           ];
         }
       where
@@ -93,32 +105,35 @@ pub record Reads (s : List ℕ) (o : Outcome Hour) (h : Hour) (t : Tables) (u : 
   pub kept : Kept h t
   pub totalled : Totalled (h .sources) (h .nsources) (h .deliveries) (h .ndeliveries) u
 
+-- the same with places: the next line starts here
 pub record Rows (s : List ℕ) (o : Outcome Hour) (h : Hour) (t : Tables) (u : Totals) (ps qs : List Place) (at : ℕ) : Type 0 where
   pub reads : Reads s o h t u at
-  pub sources : Placed s (sourcePartOf (accepted h)) ps
-  pub deliveries : Placed s (deliveryPartOf (accepted h)) qs
+  pub line : at ≡ lineStart s (lineNumber h - 1)
+  pub sources : Placed s (sourcePartOf (accepted h)) (λ i. labelStart s (i + 1)) ps
+  pub deliveries : Placed s (deliveryPartOf (accepted h)) (λ j. labelStart s (h .nsources + j + 1)) qs
 
 pub reads-start : (s : List ℕ) (losses from : ℕ) → Reads s (linesFrom (length s) s (started losses) from) (started losses) noTables noTotals from
 unfolding record-of.started
 reads-start s losses from =
     record { going = record { fuel = length s; enough = omega arith; same = refl }; kept = kept-started losses; totalled = totalled-none _ _ }
 
-rows-start : (s : List ℕ) (losses from : ℕ) → Rows s (linesFrom (length s) s (started losses) from) (started losses) noTables noTotals (replicate 32 nowhere) (replicate 32 nowhere) from
+rows-start : (s : List ℕ) (losses from : ℕ) → from ≡ lineStart s 1 → Rows s (linesFrom (length s) s (started losses) from) (started losses) noTables noTotals (replicate 32 nowhere) (replicate 32 nowhere) from
 unfolding record-of.started
-rows-start s losses from =
+rows-start s losses from first =
     record {
       reads = reads-start s losses from;
-      sources = placed-none s _ (λ i. rw (le-ltb i 0 (omega arith)));
-      deliveries = placed-none s _ (λ i. rw (le-ltb i 0 (omega arith)));
+      line = first;
+      sources = placed-none s _ _ (λ i. rw (le-ltb i 0 (omega arith)));
+      deliveries = placed-none s _ _ (λ i. rw (le-ltb i 0 (omega arith)));
     }
 
 -- the loop's start, with the hour that an H line starts
-pub rows-started : (s : List ℕ) (losses from : ℕ) (h : Hour) → h ≡ started losses
+pub rows-started : (s : List ℕ) (losses from : ℕ) (h : Hour) → from ≡ lineStart s 1 → h ≡ started losses
     → Rows s (linesFrom (length s) s (started losses) from) h noTables noTotals (replicate 32 nowhere) (replicate 32 nowhere) from
-rows-started s losses from h e = rw e (rows-start s losses from)
+rows-started s losses from h first e = rw e (rows-start s losses from first)
 
 scanned-refused : (s : List ℕ) (o : Outcome Hour) (r : Refusal) → o ≡ refused r → Scanned s o (refusedScan r)
-scanned-refused s o r e = rw e (record { answer = refl; sources = placed-none s _ (λ i. refl); deliveries = placed-none s _ (λ i. refl) })
+scanned-refused s o r e = rw e (record { answer = refl; sources = placed-none s _ _ (λ i. refl); deliveries = placed-none s _ _ (λ i. refl) })
 
 pub answer-refused : (s : List ℕ) (o : Outcome Hour) (r : Refusal) (x : ScannedDeck) → x ≡ refusedScan r → o ≡ refused r → Scanned s o x
 answer-refused s o r x e k = subst (Scanned s o) (sym e) (scanned-refused s o r k)
@@ -213,6 +228,20 @@ module _ (s : List ℕ) (o : Outcome Hour) (h : Hour) (t : Tables) (u : Totals) 
 
 -- the same with places
 module _ (s : List ℕ) (o : Outcome Hour) (h : Hour) (t : Tables) (u : Totals) (ps qs : List Place) (at : ℕ) (w : Rows s o h t u ps qs at) where
+  -- the line after this one, by the hour after it
+  line-after : (next : ℕ) (after : Hour) → next ≡ at + past 10 (drop at s) → lineNumber after ≡ lineNumber h + 1 → next ≡ lineStart s (lineNumber after - 1)
+  unfolding places.lineStart
+  line-after next after e n =
+      let k : lineNumber after - 1 ≡ suc (lineNumber h - 1) = omega (arith, n) in
+      e ∙ ap (λ (m : ℕ). m + past 10 (drop m s)) (w .line) ∙ sym (ap (lineStart s) k)
+
+  -- the label of the line at hand, which is the k-th after the first
+  label-here : (k from : ℕ) (text : List ℕ) → lineNumber h ≡ k + 1 → from ≡ at + past 34 (drop at s) → 1 ≤ length text → from ≡ partStart (labelStart s k) (length text)
+  unfolding places.labelStart
+  label-here k from text order e bytes =
+      let n : lineNumber h - 1 ≡ k = omega (arith, order) in
+      rw (ne-eqb (length text) 0 (λ z. omega arith)) (e ∙ ap (λ (m : ℕ). m + past 34 (drop m s)) (w .line ∙ ap (lineStart s) n))
+
   pub rows-source : (r : SourceStep) → SourceTurn s h t at r → r .verdict ≡ Accepted → (slo shi high : List ℕ) (v : Totals) → slo ≡ set (t .slo) (h .nsources) (r .key .lo)
       → shi ≡ set (t .shi) (h .nsources) (r .key .hi) → high ≡ set (t .high) (h .nsources) (unitHigh (r .entry .plant)) → v ≡ sourceTotalled u (r .entry .plant) → v .generated ≤ u .generated + aboveOne
       → Rows s o (withSource h (r .entry))
@@ -222,8 +251,10 @@ module _ (s : List ℕ) (o : Outcome Hour) (h : Hour) (t : Tables) (u : Totals) 
       let k = e .takes a in
       record {
         reads = reads-source s o h t u at (w .reads) r e a slo shi high v le hie he ve most;
-        sources = placed-more s (λ (x : Source). x .label) noSource (h .sources) (h .nsources) (r .entry) ps (r .place) (k .room) (w .reads .kept .sources-size) (k .holds) (w .sources);
-        deliveries = w .deliveries;
+        line = line-after (r .next) (withSource h (r .entry)) (k .ends) (omega arith);
+        sources = placed-more s (λ (x : Source). x .label) noSource (h .sources) (h .nsources) (r .entry) _ ps (r .place) (k .room) (w .reads .kept .sources-size) (k .holds)
+            (label-here (h .nsources + 1) (r .place .from) (escape (chars (r .entry .label))) (k .ordered) (k .starts) (k .some)) (w .sources);
+        deliveries = placed-still s _ _ _ qs (λ j. rw (le-ltb j (h .ndeliveries) (omega (arith, k .ordered)))) (w .deliveries);
       }
 
   pub rows-delivery : (r : DeliveryStep) → DeliveryTurn s h t at r → r .verdict ≡ Accepted → (tlo thi : List ℕ) (v : Totals) → tlo ≡ set (t .tlo) (h .ndeliveries) (r .key .lo)
@@ -235,15 +266,22 @@ module _ (s : List ℕ) (o : Outcome Hour) (h : Hour) (t : Tables) (u : Totals) 
       let k = e .takes a in
       record {
         reads = reads-delivery s o h t u at (w .reads) r e a tlo thi v le hie ve most;
+        line = line-after (r .next) (withDelivery h (r .entry)) (k .ends) (omega arith);
         sources = w .sources;
-        deliveries = placed-more s (λ (x : Delivery). x .label) noDelivery (h .deliveries) (h .ndeliveries) (r .entry) qs (r .place) (k .room) (w .reads .kept .deliveries-size) (k .holds) (w .deliveries);
+        deliveries = placed-more s (λ (x : Delivery). x .label) noDelivery (h .deliveries) (h .ndeliveries) (r .entry) _ qs (r .place) (k .room) (w .reads .kept .deliveries-size) (k .holds)
+            (label-here (h .nsources + h .ndeliveries + 1) (r .place .from) (escape (chars (r .entry .label))) (k .ordered) (k .starts) (k .some)) (w .deliveries);
       }
 
   pub rows-direct : (y : Direct) (next : ℕ) → DirectTakes s h t at y next → (based percents : List ℕ) → based ≡ set (t .based) (y .source) (basisCode (y .basis))
       → percents ≡ set (t .percents) (y .source) (getD (t .percents) (y .source) 0 + y .percent)
       → Rows s o (withDirect h y) (record { slo = t .slo; shi = t .shi; tlo = t .tlo; thi = t .thi; high = t .high; based = based; percents = percents }) u ps qs next
   rows-direct y next k based percents be pe =
-      record { reads = reads-direct s o h t u at (w .reads) y next k based percents be pe; sources = w .sources; deliveries = w .deliveries }
+      record {
+        reads = reads-direct s o h t u at (w .reads) y next k based percents be pe;
+        line = line-after next (withDirect h y) (k .ends) (omega arith);
+        sources = w .sources;
+        deliveries = w .deliveries;
+      }
 
   pub rows-accepted : o ≡ accepted h → Scanned s o (record { verdict = Accepted; hour = h; sources = ps; deliveries = qs })
   rows-accepted e = rw e (record { answer = refl; sources = w .sources; deliveries = w .deliveries })
@@ -251,10 +289,3 @@ module _ (s : List ℕ) (o : Outcome Hour) (h : Hour) (t : Tables) (u : Totals) 
 -- an hour that passes 10 and 11 is the deck's
 pub finished-accepts : (h : Hour) → verdictOf (finished h) ≡ Accepted → finished h ≡ accepted h
 finished-accepts h v = let a = verdict-accepted (finished h) v in a .1 ∙ ap accepted (sym (finished-passed h (a .0) (a .1) .same))
-
--- past the places there is no part
-pub part-past : (s : List ℕ) (part : ℕ → List ℕ) (ps : List Place) (i : ℕ) → Placed s part ps → 32 ≤ i → [] ≡ part i
-part-past s part ps i e le =
-    let l = e .size in
-    let k : getD ps i nowhere ≡ nowhere = List·getD-eq-default ps nowhere (omega arith) in
-    ap (bytesOf s) (sym k) ∙ e .each i .bytes

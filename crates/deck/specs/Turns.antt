@@ -6,7 +6,7 @@ use mathlib.Core.Option.{none, some}
 use Prim.Native.Nat.{ℕ, _+_, _<_, _≤_}
 use native.Mathlib.Omega.{arith}
 use lib.Dec.{eqb}
-use lib.ListN.{getD}
+use lib.ListN.{length, getD, drop}
 use borrow.Author.Tests.{eqb-true, ne-eqb}
 use Rattle.rules.specs.Words.{if_then_else_}
 use Rattle.rules.specs.Answers.{verdictOf}
@@ -16,6 +16,7 @@ use Rattle.rules.specs.Fields.{Field, got, malformed, byte, escape, Chars, char
 use Rattle.rules.specs.Lines as lines
 use Rattle.rules.specs.Lines.{Letter, H, U, P, F, T, D, Fields, fieldsOf, seen, ranged, letterOf, Line, line, placesAt, lineAt}
 use Rattle.rules.specs.Record.{chars, labelOf, withSource, withDelivery, withDirect, unitOf, purchaseOf, fixedOf, deliveryOf}
+use Rattle.rules.specs.Places.{past}
 use Rattle.rules.specs.Reading as reading
 use Rattle.rules.specs.Reading.{lineNumber, taken, sourceTaken, isEnd}
 use Rattle.rules.specs.declared.Label.{Label}
@@ -31,7 +32,10 @@ use Rattle.rules.specs.declared.Verdict.the-variants.{Accepted, Refused}
 use Rattle.laws.specs.Answers.{verdict-accepted, verdict-refused}
 use Rattle.laws.specs.Choices.{false-not-true}
 use Rattle.roundtrip.specs.Loop.{Going, goes-malformed, goes-on, goes-refused}
-use Rattle.roundtrip.specs.Labels.{chars-label}
+use Rattle.roundtrip.specs.Labels.{chars-label, label-some}
+use Rattle.roundtrip.specs.LabelsStart.{FirstPlace, next-starts, label-starts}
+use Rattle.roundtrip.specs.Lines.{lineRanged}
+use Rattle.roundtrip.specs.Taken.{source-taken, delivery-taken, taken-passed}
 use Rattle.read_lines.specs.Answers.{unitLine, purchaseLine, fixedLine, deliveryLine, directLine}
 use Rattle.read_lines.specs.Cut.{cutFields, ranged-cut, cut-ranged, LabelStands, line-stands}
 use Rattle.ranges.specs.Inside.{plantInside, unitMade, deliveryInside, directInside}
@@ -81,53 +85,64 @@ Refuses s h at r = (o : Outcome Hour) → Going s h at o → o ≡ refused r
 abbrev pub Goes : List ℕ → Hour → ℕ → Hour → ℕ → Type 0
 Goes s h at after next = (o : Outcome Hour) → Going s h at o → Going s after next o
 
--- a line of a class with n entries, whose label stands at a place
-pub record Takes (s : List ℕ) (h : Hour) (at n : ℕ) (after : Hour) (tables : Tables) (label : Label) (key : Key) (place : Place) (next : ℕ) : Type 0 where
+-- a line of a class with n entries, k lines after the first, whose label stands at a place
+pub record Takes (s : List ℕ) (h : Hour) (at n k : ℕ) (after : Hour) (tables : Tables) (label : Label) (key : Key) (place : Place) (next : ℕ) : Type 0 where
   pub goes : Goes s h at after next
   pub kept : Kept after tables
   pub room : n < 32
   pub keyed : key ≡ keyOf label
   pub holds : Holds s (escape (chars label)) place
   pub further : at < next
+  pub ordered : lineNumber h ≡ k + 1
+  pub some : 1 ≤ length (escape (chars label))
+  pub starts : place .from ≡ at + past 34 (drop at s)
+  pub ends : next ≡ at + past 10 (drop at s)
 
-pub record Turn (s : List ℕ) (h : Hour) (at n : ℕ) (verdict : Verdict) (after : Hour) (tables : Tables) (label : Label) (key : Key) (place : Place) (next : ℕ) : Type 0 where
+pub record Turn (s : List ℕ) (h : Hour) (at n k : ℕ) (verdict : Verdict) (after : Hour) (tables : Tables) (label : Label) (key : Key) (place : Place) (next : ℕ) : Type 0 where
   pub refuses : (r : Refusal) → verdict ≡ Refused r → Refuses s h at r
-  pub takes : verdict ≡ Accepted → Takes s h at n after tables label key place next
+  pub takes : verdict ≡ Accepted → Takes s h at n k after tables label key place next
 
 abbrev pub SourceTurn : List ℕ → Hour → Tables → ℕ → SourceStep → Type 0
 SourceTurn s h t at r =
-    Turn s h at (h .nsources) (r .verdict) (withSource h (r .entry)) (sourceAdded t (h .nsources) (r .entry)) (r .entry .label) (r .key) (r .place) (r .next)
+    Turn s h at (h .nsources) (h .nsources + 1) (r .verdict) (withSource h (r .entry)) (sourceAdded t (h .nsources) (r .entry)) (r .entry .label) (r .key) (r .place) (r .next)
 
 abbrev pub DeliveryTurn : List ℕ → Hour → Tables → ℕ → DeliveryStep → Type 0
 DeliveryTurn s h t at r =
-    Turn s h at (h .ndeliveries) (r .verdict) (withDelivery h (r .entry)) (deliveryAdded t (h .ndeliveries) (r .entry)) (r .entry .label) (r .key) (r .place) (r .next)
+    Turn s h at (h .ndeliveries) (h .nsources + h .ndeliveries + 1) (r .verdict) (withDelivery h (r .entry)) (deliveryAdded t (h .ndeliveries) (r .entry)) (r .entry .label) (r .key) (r .place) (r .next)
 
-module _ (s : List ℕ) (h : Hour) (at n : ℕ) (after : Hour) (tables : Tables) (label : Label) (key : Key) (place : Place) (next : ℕ) where
-  refused-turn : (r : Refusal) → Refuses s h at r → Turn s h at n (Refused r) after tables label key place next
+module _ (s : List ℕ) (h : Hour) (at n k : ℕ) (after : Hour) (tables : Tables) (label : Label) (key : Key) (place : Place) (next : ℕ) where
+  refused-turn : (r : Refusal) → Refuses s h at r → Turn s h at n k (Refused r) after tables label key place next
   refused-turn r e =
       record {
-        refuses = λ q k. let is : r ≡ q = cc in λ o g. e o g ∙ ap refused is;
-        takes = λ k. let z : _≡_ {A = ℕ} 0 1 = cc in absurd (omega arith);
+        refuses = λ q v. let is : r ≡ q = cc in λ o g. e o g ∙ ap refused is;
+        takes = λ v. let z : _≡_ {A = ℕ} 0 1 = cc in absurd (omega arith);
       }
 
 -- a line that is read, whose rules are tried on the tables
-module _ (s : List ℕ) (h : Hour) (at n : ℕ) (after read : Hour) (tables : Tables) (p : fields.Place) (next : ℕ) (l : Line) (tried : Outcome (Unit {0})) where
+module _ (s : List ℕ) (h : Hour) (at n k : ℕ) (after read : Hour) (tables : Tables) (p : fields.Place) (next : ℕ) (l : Line) (tried : Outcome (Unit {0})) where
   tried-turn : lineAt s at ≡ got l next → isEnd (l .letter) ≡ false → LabelStands s p → Escaped s p → at < next
-      → taken h l ≡ andThen tried (λ u. accepted read) → (tried ≡ accepted tt → (read ≡ after) × Kept after tables × (n < 32))
-      → Turn s h at n (verdictOf tried) after tables (labelOf (charsAt s p)) (keyOf (labelOf (charsAt s p))) (record { from = p .from; upto = p .upto }) next
-  tried-turn e i st es far t k =
+      → (lineRanged l ≡ true → p .from ≡ at + past 34 (drop at s)) → taken h l ≡ andThen tried (λ u. accepted read)
+      → (taken h l ≡ accepted read → lineNumber h ≡ k + 1) → (tried ≡ accepted tt → (read ≡ after) × Kept after tables × (n < 32))
+      → Turn s h at n k (verdictOf tried) after tables (labelOf (charsAt s p)) (keyOf (labelOf (charsAt s p))) (record { from = p .from; upto = p .upto }) next
+  tried-turn e i st es far first t order lets =
       record {
         refuses = λ r v o g. goes-refused s h at o g l next e r i (t ∙ ap (λ (x : Outcome (Unit {0})). andThen x (λ u. accepted read)) (verdict-refused tried r v));
         takes = λ v.
             let a = verdict-accepted tried v .1 in
-            let q = k a in
+            let q = lets a in
+            let is : taken h l ≡ accepted read = t ∙ ap (λ (x : Outcome (Unit {0})). andThen x (λ u. accepted read)) a in
+            let within = taken-passed h l read is .within in
             record {
-              goes = λ o g. goes-on s h at o g l next e after (t ∙ ap (λ (x : Outcome (Unit {0})). andThen x (λ u. accepted read)) a ∙ ap accepted (q .0));
+              goes = λ o g. goes-on s h at o g l next e after (is ∙ ap accepted (q .0));
               kept = q .1;
               room = q .2;
               keyed = refl;
               holds = record { order = st .order; within = st .within; bytes = sym es ∙ ap escape (sym (chars-label (charsAt s p))) };
               further = far;
+              ordered = order is;
+              some = rw (chars-label (charsAt s p)) (label-some (charsAt s p) (st .label));
+              starts = first within;
+              ends = next-starts l s at next e within;
             };
       }
 
@@ -136,16 +151,18 @@ module _ (s : List ℕ) (h : Hour) (at n : ℕ) (after read : Hour) (tables : Ta
 module _ (s : List ℕ) (h : Hour) (t : Tables) (k : Kept h t) (at : ℕ) where
   -- a line whose numbers are those of a plant that was read, and where they are in their ranges those of the one that is tried
   source-tried-turn : (l : Line) (next : ℕ) (inRange : Bool) (plant read : Plant) (p : fields.Place) → lineAt s at ≡ got l next → isEnd (l .letter) ≡ false → LabelStands s p
-      → Escaped s p → at < next → taken h l ≡ sourceTaken h inRange (record { plant = read; label = labelOf (charsAt s p) }) → (inRange ≡ true → plant ≡ read)
+      → Escaped s p → at < next → (lineRanged l ≡ true → p .from ≡ at + past 34 (drop at s))
+      → taken h l ≡ sourceTaken h inRange (record { plant = read; label = labelOf (charsAt s p) }) → (inRange ≡ true → plant ≡ read)
       → (inRange ≡ true → plantInside plant ≡ true) → SourceTurn s h t at (sourceStep s (countsOf h) (t .slo) (t .shi) inRange plant p next)
   unfolding steps.sourceStep
-  source-tried-turn l next inRange plant read p e i st es far took same within =
+  source-tried-turn l next inRange plant read p e i st es far first took same within =
       let x : Source = record { plant = plant; label = labelOf (charsAt s p) } in
       let y : Source = record { plant = read; label = labelOf (charsAt s p) } in
       let lb = labelled (charsAt s p) (st .label) in
       let tried = sourceTried (countsOf h) inRange plant (keyOf (labelOf (charsAt s p))) (t .slo) (t .shi) in
-      tried-turn s h at (h .nsources) (withSource h x) (withSource h y) (sourceAdded t (h .nsources) x) p next l tried e i st es far
+      tried-turn s h at (h .nsources) (h .nsources + 1) (withSource h x) (withSource h y) (sourceAdded t (h .nsources) x) p next l tried e i st es far first
       (took ∙ source-tried h t k inRange y plant lb same)
+      (λ is. omega (arith, source-taken h inRange y (withSource h y) (sym took ∙ is) .1 .alone))
       (λ a.
       let r = source-let (countsOf h) inRange plant (keyOf (labelOf (charsAt s p))) (t .slo) (t .shi) a in (
         ap (λ (z : Plant). withSource h (record { plant = z; label = labelOf (charsAt s p) })) (sym (same (r .within))),
@@ -154,8 +171,8 @@ module _ (s : List ℕ) (h : Hour) (t : Tables) (k : Kept h t) (at : ℕ) where
       ))
 
   -- once for the three letters: a line's entry, and its label
-  module _ (l : Letter) (entry : Fields Chars (fieldsOf l) → Source) (place : Fields fields.Place (fieldsOf l) → fields.Place) (b : letterOf (byte s at) ≡ some l)
-      (i : isEnd l ≡ false) (inside : (w : Fields Chars (fieldsOf l)) → ranged (fieldsOf l) w ≡ plantInside (entry w .plant))
+  module _ (l : Letter) (entry : Fields Chars (fieldsOf l) → Source) (place : Fields fields.Place (fieldsOf l) → fields.Place)
+      (first : (v : Fields fields.Place (fieldsOf l)) → FirstPlace (fieldsOf l) v (place v)) (b : letterOf (byte s at) ≡ some l) (i : isEnd l ≡ false) (inside : (w : Fields Chars (fieldsOf l)) → ranged (fieldsOf l) w ≡ plantInside (entry w .plant))
       (took : (w : Fields Chars (fieldsOf l)) → taken h (line l w) ≡ sourceTaken h (ranged (fieldsOf l) w) (entry w)) where
     source-turn : (v : Fields fields.Place (fieldsOf l)) (next : ℕ) → placesAt s (at + 1) l ≡ got v next → LabelStands s (place v) → Escaped s (place v)
         → entry (seen (fieldsOf l) s v) .label ≡ labelOf (charsAt s (place v))
@@ -168,12 +185,13 @@ module _ (s : List ℕ) (h : Hour) (t : Tables) (k : Kept h t) (at : ℕ) where
         let same : ranged ks w ≡ inRange = sym (ranged-cut l s v) ∙ inside (seen ks s (cutFields ks v)) ∙ judged in
         let ls = line-stands s l (at + 1) v next e in
         source-tried-turn (line l w) next inRange plant (entry w .plant) (place v) (line-got s at l b v next e) i st es (omega (arith, ls .after))
+        (λ r. label-starts s l at v next (place v) b r e (first v))
         (took w ∙ ap (λ (r : Bool). sourceTaken h r (entry w)) same ∙ ap (λ (x : Label). sourceTaken h inRange (record { plant = entry w .plant; label = x })) lb)
         (λ r. is r ∙ ap (λ (v : Fields fields.Place ks). entry (seen ks s v) .plant) (cut-ranged l s v (same ∙ r)))
         (λ r. ap plantInside (is r) ∙ judged ∙ r)
 
   no-source : Refuses s h at (Form (lineNumber h)) → SourceTurn s h t at (sourceRefused (Form (nextLine (countsOf h))))
-  no-source e = refused-turn s h at (h .nsources) _ _ _ _ _ _ (Form (lineNumber h)) e
+  no-source e = refused-turn s h at (h .nsources) _ _ _ _ _ _ _ (Form (lineNumber h)) e
 
   unit-turn : letterOf (byte s at) ≡ some U → SourceTurn s h t at (unitStep s (countsOf h) (t .slo) (t .shi) (unitLine (placesAt s (at + 1) U)))
   unfolding lines.seen reading.taken
@@ -184,10 +202,10 @@ module _ (s : List ℕ) (h : Hour) (t : Tables) (k : Kept h t) (at : ℕ) where
           → unitOf (seen (fieldsOf U) s (cutFields (fieldsOf U) v)) .plant ≡ IsUnit (unitMade x) → (r : Bool) → plantInside (IsUnit (unitMade x)) ≡ r
           → SourceTurn s h t at (judgedStep s (countsOf h) (t .slo) (t .shi) (if r then Inside (unitMade x) else Outside) (v .1 .1 .1 .1 .1 .1 .1 .1 .1 .1 .0) next)
       judge v next e x is true r =
-          source-turn U unitOf (λ v. v .1 .1 .1 .1 .1 .1 .1 .1 .1 .1 .0) b refl unit-inside (λ w. refl) v next e
+          source-turn U unitOf (λ v. v .1 .1 .1 .1 .1 .1 .1 .1 .1 .1 .0) (λ v. refl) b refl unit-inside (λ w. refl) v next e
           (line-stands s U (at + 1) v next e .labels .0) (line-escaped s U (at + 1) v next e .0) refl true (IsUnit (unitMade x)) (ap plantInside is ∙ r) (λ q. sym is)
       judge v next e x is false r =
-          source-turn U unitOf (λ v. v .1 .1 .1 .1 .1 .1 .1 .1 .1 .1 .0) b refl unit-inside (λ w. refl) v next e
+          source-turn U unitOf (λ v. v .1 .1 .1 .1 .1 .1 .1 .1 .1 .1 .0) (λ v. refl) b refl unit-inside (λ w. refl) v next e
           (line-stands s U (at + 1) v next e .labels .0) (line-escaped s U (at + 1) v next e .0) refl false (IsFixed 0) (ap plantInside is ∙ r) (λ q. false-not-true q)
 
       go : (x : Field (Fields fields.Place (fieldsOf U))) → placesAt s (at + 1) U ≡ x → SourceTurn s h t at (unitStep s (countsOf h) (t .slo) (t .shi) (unitLine x))
@@ -200,7 +218,7 @@ module _ (s : List ℕ) (h : Hour) (t : Tables) (k : Kept h t) (at : ℕ) where
     where
       go : (x : Field (Fields fields.Place (fieldsOf P))) → placesAt s (at + 1) P ≡ x → SourceTurn s h t at (purchaseStep s (countsOf h) (t .slo) (t .shi) (purchaseLine x))
       go (got v next) e =
-          source-turn P purchaseOf (λ v. v .1 .1 .0) b refl purchase-inside (λ w. refl) v next e
+          source-turn P purchaseOf (λ v. v .1 .1 .0) (λ v. refl) b refl purchase-inside (λ w. refl) v next e
           (line-stands s P (at + 1) v next e .labels .0) (line-escaped s P (at + 1) v next e .0) refl _ _ refl (λ r. refl)
       go malformed e = no-source (λ o g. goes-malformed s h at o g (line-malformed s at P b e))
 
@@ -210,7 +228,7 @@ module _ (s : List ℕ) (h : Hour) (t : Tables) (k : Kept h t) (at : ℕ) where
     where
       go : (x : Field (Fields fields.Place (fieldsOf F))) → placesAt s (at + 1) F ≡ x → SourceTurn s h t at (fixedStep s (countsOf h) (t .slo) (t .shi) (fixedLine x))
       go (got v next) e =
-          source-turn F fixedOf (λ v. v .1 .0) b refl fixed-inside (λ w. refl) v next e
+          source-turn F fixedOf (λ v. v .1 .0) (λ v. refl) b refl fixed-inside (λ w. refl) v next e
           (line-stands s F (at + 1) v next e .labels .0) (line-escaped s F (at + 1) v next e .0) refl _ _ refl (λ r. refl)
       go malformed e = no-source (λ o g. goes-malformed s h at o g (line-malformed s at F b e))
 
@@ -269,16 +287,18 @@ module _ (s : List ℕ) (h : Hour) (t : Tables) (k : Kept h t) (at : ℕ) where
           let in-range = deliveryInside (c .0) (c .1 .0) (c .1 .1 .0) (c .1 .1 .1 .0) in
           let same : ranged ks w ≡ in-range = sym (ranged-cut T s v) ∙ delivery-inside c in
           let tried = deliveryTried (countsOf h) in-range (keyOf (labelOf (charsAt s p))) (t .tlo) (t .thi) in
-          tried-turn s h at (h .ndeliveries) (withDelivery h (deliveryOf c)) (withDelivery h (deliveryOf w)) (deliveryAdded t (h .ndeliveries) (deliveryOf c)) p next
+          tried-turn s h at (h .ndeliveries) (h .nsources + h .ndeliveries + 1) (withDelivery h (deliveryOf c)) (withDelivery h (deliveryOf w)) (deliveryAdded t (h .ndeliveries) (deliveryOf c)) p next
           (line T w) tried (line-got s at T b v next e) refl st (line-escaped s T (at + 1) v next e .0) (omega (arith, ls .after))
+          (λ r. label-starts s T at v next p b r e refl)
           (ap (λ (r : Bool). reading.deliveryTaken h r (deliveryOf w)) same ∙ delivery-tried h t k in-range (deliveryOf w) lb)
+          (λ is. omega (arith, delivery-taken h (ranged ks w) (deliveryOf w) (withDelivery h (deliveryOf w)) is .1 .alone))
           (λ a.
           let r = delivery-let (countsOf h) in-range (keyOf (labelOf (charsAt s p))) (t .tlo) (t .thi) a in (
             ap (λ (v : Fields fields.Place ks). withDelivery h (deliveryOf (seen ks s v))) (sym (cut-ranged T s v (same ∙ r .within))),
             kept-delivery h t k in-range (deliveryOf c) lb a,
             r .room,
           ))
-      go malformed e = refused-turn s h at (h .ndeliveries) _ _ _ _ _ _ (Form (lineNumber h)) (λ o g. goes-malformed s h at o g (line-malformed s at T b e))
+      go malformed e = refused-turn s h at (h .ndeliveries) _ _ _ _ _ _ _ (Form (lineNumber h)) (λ o g. goes-malformed s h at o g (line-malformed s at T b e))
 
 -- D lines.
 
@@ -289,6 +309,7 @@ pub record DirectTakes (s : List ℕ) (h : Hour) (t : Tables) (at : ℕ) (y : Di
   pub source : y .source < 32
   pub total : getD (t .percents) (y .source) 0 + y .percent ≤ 100
   pub further : at < next
+  pub ends : next ≡ at + past 10 (drop at s)
 
 pub record DirectTurn (s : List ℕ) (h : Hour) (t : Tables) (at : ℕ) (r : DirectStep) : Type 0 where
   pub refuses : (q : Refusal) → r .entry ≡ Unnamed q → Refuses s h at q
@@ -327,15 +348,16 @@ direct-at-turn s h t k at be = go (placesAt s (at + 1) D) refl
           takes = λ y z.
               let a = entry-named tried y z in
               let r = direct-let (countsOf h) in-range x t y a in
+              let got-line = line-got s at D b v next e in
+              let is : taken h (line D w) ≡ accepted (withDirect h y) = took ∙ ap (λ (x : Outcome Direct). andThen x (λ y. accepted (withDirect h y))) a in
               record {
-                goes = λ o g.
-                    goes-on s h at o g (line D w) next (line-got s at D b v next e) (withDirect h y)
-                    (took ∙ ap (λ (x : Outcome Direct). andThen x (λ y. accepted (withDirect h y))) a);
+                goes = λ o g. goes-on s h at o g (line D w) next got-line (withDirect h y) is;
                 kept = kept-direct h t k in-range x y a;
                 room = r .room;
                 source = omega (arith, r .source, k .few .sources);
                 total = r .total;
                 further = omega (arith, ls .after);
+                ends = next-starts (line D w) s at next got-line (taken-passed h (line D w) (withDirect h y) is .within);
               };
         }
     go malformed e =

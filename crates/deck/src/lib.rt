@@ -1,22 +1,24 @@
 // Reads a whole deck in one pass, line by line, and tells where each label's own bytes stand in it.
 // A struct holds the deck and its place; its functions are thin, over covered ones on slice and place.
-// The contracts cite rules' Reading and Calls for what a deck comes to, Answers for the structs that say it, Steps for the line at hand, and FirstLine for the first line and those after it.
+// The contracts cite rules' Reading for what a deck comes to and Places for where a line starts, Answers for the structs that say it, Steps for the line at hand, and FirstLine for the first
+// line and those after it.
 ghost use mathlib.Core.Path.{_≡_};
-ghost use Prim.Native.Nat.{_<_, _≤_};
+ghost use Prim.Native.Nat.{_+_, _<_, _≤_};
 ghost use lib.ListN.{length};
+ghost use denote.Ref.{ptr};
 ghost use Rattle.rules.specs.Answers.{verdictOf};
 ghost use Rattle.rules.specs.Lines.{T, D, U, P, F, placesAt};
 ghost use Rattle.rules.specs.Record.{started, blankSource, blankDelivery, labelOf};
 ghost use Rattle.rules.specs.Fields.{byteAt, charsAt};
 ghost use Rattle.rules.specs.Reading.{reading, linesFrom};
-ghost use Rattle.rules.specs.Calls.{sourcePart, deliveryPart};
+ghost use Rattle.rules.specs.Places.{lineStart};
 ghost use Rattle.read_fields.specs.Answers.{stepOf};
 ghost use Rattle.read_lines.specs.Answers.{unitLine, purchaseLine, fixedLine, deliveryLine, directLine};
 ghost use Rattle.read_lines.specs.Cut.{LabelStands};
 ghost use Rattle.line_rules.specs.Keys.{keyOf};
 ghost use Rattle.line_rules.specs.Tried.{Few};
 ghost use Rattle.deck.specs.Answers.{readAnswer, bytesOf, refusedScan, Scanned};
-ghost use Rattle.deck.specs.FirstLine.{headRefused, headStep, readerAt, rowsAfter};
+ghost use Rattle.deck.specs.FirstLine.{headRefused, headStep, readerAt, rowsAfter, Follows};
 ghost use Rattle.deck.specs.Steps.{unitSource, purchaseSource, fixedSource, plantFrom, sourceFrom, sourceRefused, deliveryRefused, deliveryStep, directStep, endVerdict};
 use line_rules::Counts;
 use line_rules::Entry;
@@ -372,6 +374,7 @@ fn end_at(s: &[u8], at: usize, line: usize) -> Verdict
 
 // The lines after the first: the hour grows entry by entry, with the tables and the totals of its entries beside it.
 fn rows(s: &[u8], losses: u32, from: usize) -> ScannedDeck
+    requires { ⌜ from ≡ lineStart (now s) 1 ⌝ }
     ensures { λ r. ⌜ Scanned (now (s .entry)) (linesFrom (length (now (s .entry))) (now (s .entry)) (started losses) from) r ⌝ }
 {
     let mut h = start(losses);
@@ -608,6 +611,7 @@ fn head_at(s: &[u8], at: usize) -> HeadStep
 
 // The lines after the first, which are not looked at where that one is refused.
 fn rows_after(s: &[u8], at: usize, head: HeadStep) -> ScannedDeck
+    requires { ⌜ Follows (now s) at head ⌝ }
     ensures { λ r. ⌜ Scanned (now (s .entry)) (rowsAfter (now (s .entry)) at head) r ⌝ }
 {
     let v = head.verdict;
@@ -641,6 +645,7 @@ fn moved<'a>(r: Reader<'a>, at: usize) -> Reader<'a>
 
 // The lines from its place on, after the first one.
 fn rows_from<'a>(r: Reader<'a>, head: HeadStep) -> ScannedDeck
+    requires { ⌜ Follows (now (r .deck)) (r .at) head ⌝ }
     ensures { λ x. ⌜ Scanned (now (r .entry .deck)) (rowsAfter (now (r .entry .deck)) (r .entry .at) head) x ⌝ }
 {
     rows_after(r.deck, r.at, head)
@@ -675,34 +680,13 @@ pub fn check_deck(s: &[u8]) -> Verdict
     }
 }
 
+// The part of the deck at a place.
 pub fn part_at<'a>(s: &'a [u8], p: Place) -> &'a [u8]
     requires { ⌜ (p .from ≤ p .upto) × (p .upto ≤ length (now s)) ⌝ }
-    ensures { λ r. ⌜ now r ≡ bytesOf (now (s .entry)) p ⌝ }
+    ensures bytes { λ r. ⌜ now r ≡ bytesOf (now (s .entry)) p ⌝ }
+    ensures place { λ r. ⌜ ptr r ≡ (ptr (s .entry) .0, p .from + ptr (s .entry) .1) ⌝ }
 {
     let from = p.from;
     let upto = p.upto;
     &s[from..upto]
-}
-
-// The part of the deck at a label's own bytes; empty for an entry that the deck lacks, and for a refused deck.
-pub fn source_label<'a>(s: &'a [u8], i: usize) -> &'a [u8]
-    ensures { λ r. ⌜ now r ≡ sourcePart (now (s .entry)) i ⌝ }
-{
-    let x = scan(s);
-    if 32 <= i {
-        return &s[0..0];
-    }
-    let p = x.sources[i];
-    part_at(s, p)
-}
-
-pub fn delivery_label<'a>(s: &'a [u8], i: usize) -> &'a [u8]
-    ensures { λ r. ⌜ now r ≡ deliveryPart (now (s .entry)) i ⌝ }
-{
-    let x = scan(s);
-    if 32 <= i {
-        return &s[0..0];
-    }
-    let p = x.deliveries[i];
-    part_at(s, p)
 }

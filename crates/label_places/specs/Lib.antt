@@ -1,4 +1,3 @@
-pub mod Places
-pub mod LabelsStand
-pub mod Walk
+pub mod Stands
+pub mod Codes
 pub mod MentionsStandElsewhere

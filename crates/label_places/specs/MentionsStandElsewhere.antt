@@ -10,7 +10,7 @@ use Rattle.rules.specs.Lines.{fieldsAt, seen, ranged, labelled, letterOf, place
 use Rattle.rules.specs.Record.{started}
 use Rattle.rules.specs.Reading.{taken, headed, finished, linesFrom, reading}
 use Rattle.rules.specs.Calls.{sourcePart, deliveryPart}
-use Rattle.label_places.specs.Places.{past, lineStart, labelStart, sourceStart, deliveryStart}
+use Rattle.rules.specs.Places.{past, lineStart, labelStart, sourceStart, deliveryStart}
 
 pub mentioning : List ℕ
 mentioning = text "H 10\nU 100 120 40 30 20 20 50000 9000 10 10000 \"U1\"\nT 30 1 1 60 \"X\"\nD 30 50 \"U1\" \"X\"\nE\n"

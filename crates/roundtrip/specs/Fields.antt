@@ -248,13 +248,14 @@ module _ {A B : Type 0} (field : List ℕ → ℕ → Field A) (text : A → Lis
       let k : at + length (text a) + n ≡ at + (length (text a) + n) = omega arith in
       rw (t .reads s w at e stop, r) (ap (got (a, b)) k)
 
+module _ {A B : Type 0} (field : List ℕ → ℕ → Field A) (rest : ℕ → Field B) (s : List ℕ) (at : ℕ) where
   -- what is got was got field by field
-  record More (v : A × B) (n : ℕ) : Type 0 where
-    place : ℕ
-    first : field s at ≡ got (v .0) place
-    second : rest place ≡ got (v .1) n
+  pub record More (v : A × B) (n : ℕ) : Type 0 where
+    pub place : ℕ
+    pub first : field s at ≡ got (v .0) place
+    pub second : rest place ≡ got (v .1) n
 
-  more-stood : (v : A × B) (n : ℕ) → onField (field s at) (λ v next. push v (rest next)) ≡ got v n → More v n
+  pub more-stood : (v : A × B) (n : ℕ) → onField (field s at) (λ v next. push v (rest next)) ≡ got v n → More v n
   more-stood v n e =
       let p = field-passed (field s at) (λ v next. push v (rest next)) v n e in
       go (p .mid) (p .place) (p .first) (rest (p .place)) refl (p .second)
@@ -297,7 +298,7 @@ pub fields-stood : (ks : List Kind) (v : Fields Chars ks) (s : List ℕ) (at nex
 unfolding lines.written lines.ranged lines.labelled
 fields-stood [] v s at next n e = record { text = λ r. let k : at ≡ next = cc in ap (λ (k : ℕ). drop k s) k; labels = refl }
 fields-stood (number x ∷ ks) v s at next n e =
-    let m = more-stood spacedNumber (λ v. 32 ∷ digits v) (readAt ks s) s at v next e in
+    let m = more-stood spacedNumber (readAt ks s) s at v next e in
     let ih = fields-stood ks (v .1) s (m .place) next (n .1) (m .second) in
     record {
       text = λ r.
@@ -306,7 +307,7 @@ fields-stood (number x ∷ ks) v s at next n e =
       labels = ih .labels;
     }
 fields-stood (basis x ∷ ks) v s at next n e =
-    let m = more-stood spacedBasis (λ b. 32 ∷ basisText b) (readAt ks s) s at v next e in
+    let m = more-stood spacedBasis (readAt ks s) s at v next e in
     let ih = fields-stood ks (v .1) s (m .place) next (n .1) (m .second) in
     record {
       text = λ r.
@@ -315,7 +316,7 @@ fields-stood (basis x ∷ ks) v s at next n e =
       labels = ih .labels;
     }
 fields-stood (label ∷ ks) v s at next n e =
-    let m = more-stood spacedChars labelText (readAt ks s) s at v next e in
+    let m = more-stood spacedChars (readAt ks s) s at v next e in
     let ih = fields-stood ks (v .1) s (m .place) next n (m .second) in
     let c = chars-stood (v .0) s at (m .place) (m .first) in
     record {

@@ -8,12 +8,12 @@ use mathlib.Core.Logic.{_↔_}
 use mathlib.Core.Bool.{Bool, true, false, _&&_, _||_}
 use mathlib.Core.List.{List, [], _∷_, _++_}
 use mathlib.Core.Option.{none, some}
-use Prim.Native.Nat.{ℕ, suc, _+_, _-_, _<_}
+use Prim.Native.Nat.{ℕ, suc, _+_, _-_, _<_, _≤_}
 use native.Mathlib.Omega.{arith}
 use lib.Dec.{leb, eqb}
 use lib.ListN.{length, replicate, length-append}
 use lib.Seq.{take-append-seam}
-use borrow.Author.Tests.{eqb-true}
+use borrow.Author.Tests.{eqb-true, leb-true}
 use Rattle.rules.specs.Words.{if_then_else_}
 use Rattle.rules.specs.Fields as fields
 use Rattle.rules.specs.Fields.{isCharacter, isEscaped, escape, unescape, closed, closing, labelEnd, Chars, allCharacters, isLabel}
@@ -58,6 +58,16 @@ label-from cs e =
     let p = both-true (leb 1 (length cs) && leb (length cs) 16) (allCharacters cs) e in
     let q = both-true (leb 1 (length cs)) (leb (length cs) 16) (p .0) in
     record { some = q .0; few = q .1; all = p .1 }
+
+-- it has bytes
+pub label-some : (cs : Chars) → isLabel cs ≡ true → 1 ≤ length (escape cs)
+unfolding fields.escape
+label-some [] e = absurd (omega (arith, leb-true 1 0 (label-from [] e .some)))
+label-some (c ∷ cs) e = go (isEscaped c)
+  where
+    go : (b : Bool) → 1 ≤ length (if b then 92 ∷ c ∷ escape cs else c ∷ escape cs)
+    go true = omega arith
+    go false = omega arith
 
 label-is : (cs : Chars) → Label cs → isLabel cs ≡ true
 unfolding fields.isLabel

@@ -14,3 +14,4 @@ pub mod ValidReadsBack
 pub mod DeckRoundTrip
 pub mod Loop
 pub mod GivenHour
+pub mod LabelsStart

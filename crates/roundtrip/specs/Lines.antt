@@ -19,7 +19,7 @@ use Rattle.roundtrip.specs.Fields.{byte-read, byte-there, byte-stood, Na
 
 -- The letter.
 
-narrow : (l : Letter) → Narrow (fieldsOf l)
+pub narrow : (l : Letter) → Narrow (fieldsOf l)
 narrow H = search arith
 narrow U = search arith
 narrow P = search arith
@@ -38,7 +38,7 @@ byte-letter T = refl
 byte-letter D = refl
 byte-letter E = refl
 
-byte-some : (l : Letter) → 1 ≤ byteOf l
+pub byte-some : (l : Letter) → 1 ≤ byteOf l
 byte-some H = omega arith
 byte-some U = omega arith
 byte-some P = omega arith
@@ -47,7 +47,7 @@ byte-some T = omega arith
 byte-some D = omega arith
 byte-some E = omega arith
 
-letter-byte : (b : ℕ) (l : Letter) → letterOf b ≡ some l → eqb b (byteOf l) ≡ true
+pub letter-byte : (b : ℕ) (l : Letter) → letterOf b ≡ some l → eqb b (byteOf l) ≡ true
 unfolding lines.letterOf
 letter-byte b l e =
     test H (test U (test P (test F (test T (test D (test E (none-not-some l))))))) e

@@ -35,7 +35,7 @@ pub record SourceTaken (h : Hour) (x : Source) (after : Hour) : Type 0 where
   pub levels : levelled (x .plant) ≡ true
   pub is : withSource h x ≡ after
 
-source-taken : (h : Hour) (inRange : Bool) (x : Source) (after : Hour) → sourceTaken h inRange x ≡ accepted after → (inRange ≡ true) × SourceTaken h x after
+pub source-taken : (h : Hour) (inRange : Bool) (x : Source) (after : Hour) → sourceTaken h inRange x ≡ accepted after → (inRange ≡ true) × SourceTaken h x after
 source-taken h inRange x after e =
     let a = refuse-passed (not (eqb (h .ndeliveries + h .ndirects) 0)) _ _ after e in
     let b = refuse-passed (not inRange) _ _ after (a .1) in
@@ -60,7 +60,7 @@ pub record DeliveryTaken (h : Hour) (x : Delivery) (after : Hour) : Type 0 where
   pub unused : deliveryUsed h (x .label) ≡ false
   pub is : withDelivery h x ≡ after
 
-delivery-taken : (h : Hour) (inRange : Bool) (x : Delivery) (after : Hour) → deliveryTaken h inRange x ≡ accepted after → (inRange ≡ true) × DeliveryTaken h x after
+pub delivery-taken : (h : Hour) (inRange : Bool) (x : Delivery) (after : Hour) → deliveryTaken h inRange x ≡ accepted after → (inRange ≡ true) × DeliveryTaken h x after
 delivery-taken h inRange x after e =
     let a = refuse-passed (not (eqb (h .ndirects) 0)) _ _ after e in
     let b = refuse-passed (not inRange) _ _ after (a .1) in

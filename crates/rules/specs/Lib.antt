@@ -12,5 +12,6 @@ pub mod Record
 pub mod Reading
 pub mod Writing
 pub mod Calls
+pub mod Places
 pub mod Report
 pub mod Table

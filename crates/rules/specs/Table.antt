@@ -19,6 +19,7 @@ use Rattle.rules.specs.Record.{sameLabel, labelOf, started, body}
 use Rattle.rules.specs.Reading.{taken, feed, headed, finished, onLine, linesFrom, reading}
 use Rattle.rules.specs.Writing.{texts, deckText, sameBy, sameHour, allLabelled, given, valid}
 use Rattle.rules.specs.Calls.{cellsFor, writing, reconstruction, leaves, sourcePart, deliveryPart}
+use Rattle.rules.specs.Places.{past, lineStart, labelStart, labelling}
 use Rattle.rules.specs.Report.{hourLines, reportLines, amountsText, reportText, reportTexts, report}
 use Rattle.rules.specs.declared.HeatCurve.{HeatCurve}
 use Rattle.rules.specs.declared.Plant.{Plant}
@@ -54,6 +55,7 @@ pub data Case : Type 0 where
   leavesCells : (deck : List ℕ) → (buffer after : List ℤ) → Case
   leavesBytes : (deck buffer after : List ℕ) → Case
   hasParts : (deck source delivery : List ℕ) → Case  -- the first source's label and the first delivery's
+  leavesPlaces : (deck buffer after : List ℕ) → Case  -- the places of all labels
 
 sameℤ : ℤ → ℤ → Bool
 sameℤ (pos x) (pos y) = eqb x y
@@ -95,6 +97,7 @@ right (ungiven s change) = accepts (λ h. isRefused 15 0 (reconstruction (change
 right (leavesCells s buffer after) = accepts (λ h. sameCells (leaves (reconstruction h (length buffer)) buffer) after) (reading s)
 right (leavesBytes s buffer after) = accepts (λ h. sameList (leaves (writing h (length buffer)) buffer) after) (reading s)
 right (hasParts s x y) = sameList (sourcePart s 0) x && sameList (deliveryPart s 0) y
+right (leavesPlaces s buffer after) = sameList (leaves (labelling s (length buffer)) buffer) after
 
 pub allRight : List Case → Bool
 allRight [] = true
@@ -200,6 +203,10 @@ lastDirect percent h =
 -- a small hour of six cells
 sixCells : List ℕ
 sixCells = deck ("P 5 1 \"P\"" ∷ "T 1 1 1 2 \"X\"" ∷ [])
+
+-- a deck whose D line mentions a unit and a delivery
+mentioned : List ℕ
+mentioned = deck ("U 2 2 1 1 1 1 0 0 0 0 \"U\"" ∷ "F 1 \"\\\"\"" ∷ "T 1 1 1 1 \"U\"" ∷ "D 1 50 \"U\" \"U\"" ∷ [])
 
 -- an hour that meets 12 after its first group
 twelve : List ℕ
@@ -397,8 +404,12 @@ table =
     -- a label's own bytes, escapes unread; none where the entry is not there
     hasParts (deck ("F 1 \"\\\"\\\\ \"" ∷ [])) (text "\\\"\\\\ ") [] ∷
     hasParts (deck ("F 1 \"A\"" ∷ "T 1 1 1 2 \"X\"" ∷ [])) [] [] ∷
+    -- the places of all labels, not those of a D line's mentions; one number more than they are, one short, and a refused deck
+    leavesPlaces mentioned (replicate 4 7) (115_964_116_993 ∷ 150_323_855_362 ∷ 214_748_364_801 ∷ 7 ∷ []) ∷
+    leavesPlaces mentioned (replicate 2 7) (replicate 2 7) ∷
+    leavesPlaces (deck ("F 1 \"A\"" ∷ "T 1 1 1 2 \"X\"" ∷ [])) (replicate 2 7) (replicate 2 7) ∷
     []
 
 pub starred : allRight table ≡ true
-unfolding table allRight right curve u1 u1Line p1Line xLine delivery three printed creditOf manySources manyDeliveries manyDirects losing lastSource lastDirect sixCells twelve accepts isRefused writesBack sameCells sameℤ sumTo listTo allTo anyTo findTo sameList curveCost matches ruleA ruleB ruleC ruleD ruleE placed numbered changed directed groupLine groupLines room unitRoom better next move plain headroom toEmergency unload credit remainder upTo keys inTurn turns share shared rest group groups reconstructed cellsOf answer byteAt run numberAt digitsIn digits escape unescape closing labelEnd allCharacters isLabel spacedNumber spacedLabel basisAt spacedBasis fieldsAt seen written ranged labelled letterOf placesAt lineAt lineText started body taken feed headed finished linesFrom reading texts deckText sameBy sameHour allLabelled given valid writing cellsFor reconstruction sourcePart deliveryPart hourLines reportLines amountsText reportText reportTexts report
+unfolding table allRight right past lineStart labelStart labelling mentioned curve u1 u1Line p1Line xLine delivery three printed creditOf manySources manyDeliveries manyDirects losing lastSource lastDirect sixCells twelve accepts isRefused writesBack sameCells sameℤ sumTo listTo allTo anyTo findTo sameList curveCost matches ruleA ruleB ruleC ruleD ruleE placed numbered changed directed groupLine groupLines room unitRoom better next move plain headroom toEmergency unload credit remainder upTo keys inTurn turns share shared rest group groups reconstructed cellsOf answer byteAt run numberAt digitsIn digits escape unescape closing labelEnd allCharacters isLabel spacedNumber spacedLabel basisAt spacedBasis fieldsAt seen written ranged labelled letterOf placesAt lineAt lineText started body taken feed headed finished linesFrom reading texts deckText sameBy sameHour allLabelled given valid writing cellsFor reconstruction sourcePart deliveryPart hourLines reportLines amountsText reportText reportTexts report
 starred = refl

@@ -104,7 +104,7 @@ start-requires c κs = search needs
 loop-holds : tie.Need-loop-holds Inv-loop μ-loop
 loop-holds c =
     let start = c .before .before in
-    rows-started (start .args .s .now) (start .args .losses) (start .args .from) _ (c .start .ensures)
+    rows-started (start .args .s .now) (start .args .losses) (start .args .from) _ (start .pre) (c .start .ensures)
 
 shared-slice-read-letter : tie.Need-shared-slice-read-letter Inv-loop μ-loop
 shared-slice-read-letter c = search needs

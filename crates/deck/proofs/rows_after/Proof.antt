@@ -18,7 +18,9 @@ enum-told : tie.Need-enum-told
 enum-told c = search needs
 
 rows-requires : tie.Need-rows-requires
-rows-requires c κs = search needs
+rows-requires c κs =
+    let start = c .before .before .before in
+    start .pre (c .enum-told .given .1)
 
 returns : tie.Need-returns
 returns c =

@@ -41,7 +41,7 @@ use Rattle.rules.specs.Refusals.{Outcome}
 use Rattle.rules.specs.declared.Hour.{Hour}
 use Rattle.deck.specs.Answers.{Scanned}
 use Rattle.deck.specs.FirstLine.{readerAt, headStep, rowsAfter}
-use Rattle.deck.specs.Head.{rows-after-head}
+use Rattle.deck.specs.Head.{rows-after-head, head-follows}
 use Rattle.deck.specs.declared.Reader.{Reader}
 use Rattle.deck.specs.declared.HeadStep.{HeadStep}
 use Rattle.deck.specs.declared.ScannedDeck.{ScannedDeck}
@@ -185,7 +185,7 @@ module _ {M : Type 1} (𝓤 : URA M) (H : Heap 𝓤) (A : Atoms 𝓤) (W : Given
     goes-rows : (w : Val) → ent 𝓤 (⋆ 𝓤 H A ((‵ (flft κ q) ⊛ ‵ ftrue) ∷ ‵ (OwnReader d₁ w) ∷ ‵ (OwnStep x (stepped x)) ∷ [])) (Rows .pre (to-rows w))
     goes-rows w =
         qed W ((‵ (flft κ q) ⊛ ‵ ftrue) ∷ ‵ (OwnReader d₁ w) ∷ ‵ (OwnStep x (stepped x)) ∷ []) ∵
-        nothing ! $ move ! (3 ∷ 0 ∷ []) $ fjoin ! $ move ! (2 ∷ 0 ∷ []) $ fjoin ! $ move ! (1 ∷ 0 ∷ []) $ join ! $ frame ! $ done !
+        says ! (head-follows (now s)) $ nothing ! $ move ! (3 ∷ 0 ∷ []) $ fjoin ! $ move ! (2 ∷ 0 ∷ []) $ fjoin ! $ move ! (1 ∷ 0 ∷ []) $ done !
 
     abbrev Answers : ScannedDeck → Type 0
     Answers t = Scanned (now s) (rowsAfter (now s) (x .next) x) t

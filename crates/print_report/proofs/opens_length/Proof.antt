@@ -59,7 +59,7 @@ open-length-requires c κs =
     let a = s .args in
     let lines = openAt (a .deck .now) (a .t2) (a .cells .now) (a .base) in
     let fronts = front-open-at (a .deck .now) (a .t2) (a .cells .now) (a .base) in
-    let written = ap length (line-same (text "internal \"") (part-at .part-at .ensures) (amounts .open-amounts-at .ensures) []) in
+    let written = ap length (line-same (text "internal \"") (part-at .part-at .ensures .0) (amounts .open-amounts-at .ensures) []) in
     omega (arith, written, length-within lines fronts (at-loop .loop .i) (a .n) (omega arith), s .pre .3)
 
 add-size : tie.Need-add-size Inv-loop μ-loop
@@ -72,7 +72,7 @@ add-size c =
     let a = s .args in
     let lines = openAt (a .deck .now) (a .t2) (a .cells .now) (a .base) in
     let fronts = front-open-at (a .deck .now) (a .t2) (a .cells .now) (a .base) in
-    let written = ap length (line-same (text "internal \"") (part-at .part-at .ensures) (amounts .open-amounts-at .ensures) []) in
+    let written = ap length (line-same (text "internal \"") (part-at .part-at .ensures .0) (amounts .open-amounts-at .ensures) []) in
     record { fits = omega (arith, written, length-within lines fronts (at-loop .loop .i) (a .n) (omega arith), s .pre .3, open-length .open-length .ensures, at-loop .loop .inv .3) }
 
 add-i : tie.Need-add-i Inv-loop μ-loop
@@ -91,7 +91,7 @@ loop-again c =
     let a = s .args in
     let lines = openAt (a .deck .now) (a .t2) (a .cells .now) (a .base) in
     let fronts = front-open-at (a .deck .now) (a .t2) (a .cells .now) (a .base) in
-    let written = ap length (line-same (text "internal \"") (part-at .part-at .ensures) (amounts .open-amounts-at .ensures) []) in
+    let written = ap length (line-same (text "internal \"") (part-at .part-at .ensures .0) (amounts .open-amounts-at .ensures) []) in
     (search needs, search needs, search needs, omega (arith, written, length-more lines fronts (at-loop .loop .i), open-length .open-length .ensures, at-loop .loop .inv .3))
 
 returns : tie.Need-returns Inv-loop μ-loop

@@ -58,7 +58,7 @@ put-open-requires c κs =
     let s = at-loop .before .before .before in
     let a = s .args in
     let lines = openAt (a .deck .now) (a .t4) (a .cells .now) (a .base) in
-    room-as (line-same (text "internal \"") (part-at .part-at .ensures) (amounts .open-amounts-at .ensures) [])
+    room-as (line-same (text "internal \"") (part-at .part-at .ensures .0) (amounts .open-amounts-at .ensures) [])
     (room-next lines (front-open-at (a .deck .now) (a .t4) (a .cells .now) (a .base)) (at-loop .loop .i) (a .n) (omega arith) (at-loop .loop .inv .3) (s .pre .3))
 
 add-i : tie.Need-add-i Inv-loop μ-loop
@@ -75,7 +75,7 @@ loop-again c =
     let at-loop = part-at .before .before .before in
     let s = at-loop .before .before .before in
     let a = s .args in
-    let written = line-same (text "internal \"") (part-at .part-at .ensures) (amounts .open-amounts-at .ensures) in
+    let written = line-same (text "internal \"") (part-at .part-at .ensures .0) (amounts .open-amounts-at .ensures) in
     (search needs, search needs, search needs, inked-more _ _ (at-loop .loop .inv .3) (inked-as written (put-open .put-open .ensures)))
 
 same-length : tie.Need-same-length Inv-loop μ-loop

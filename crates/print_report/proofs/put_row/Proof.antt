@@ -57,7 +57,7 @@ put-line-requires c κs =
     let s = at-loop .before .before .before .before in
     let a = s .args in
     let lines = pairAt (a .deck .now) (a .t4) (a .cells .now) (a .base) (a .head .now) in
-    room-as (line-same (a .head .now) (part-at .part-at .ensures) (amounts .pair-amounts-at .ensures) [])
+    room-as (line-same (a .head .now) (part-at .part-at .ensures .0) (amounts .pair-amounts-at .ensures) [])
     (room-next lines (front-pair-at (a .deck .now) (a .t4) (a .cells .now) (a .base) (a .head .now)) (at-loop .loop .i) (a .n) (omega arith) (at-loop .loop .inv .3) (s .pre .3))
 
 add-i : tie.Need-add-i Inv-loop μ-loop
@@ -74,7 +74,7 @@ loop-again c =
     let at-loop = part-at .before .before .before in
     let s = at-loop .before .before .before .before in
     let a = s .args in
-    let written = line-same (a .head .now) (part-at .part-at .ensures) (amounts .pair-amounts-at .ensures) in
+    let written = line-same (a .head .now) (part-at .part-at .ensures .0) (amounts .pair-amounts-at .ensures) in
     (search needs, search needs, search needs, inked-more _ _ (at-loop .loop .inv .3) (inked-as written (put-line .put-line .ensures)))
 
 same-length : tie.Need-same-length Inv-loop μ-loop

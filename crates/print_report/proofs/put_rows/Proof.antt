@@ -48,7 +48,7 @@ put-head-requires c κs =
     let at-loop = part-at .before .before .before in
     let s = at-loop .before .before .before in
     let a = s .args in
-    head-room (a .deck .now) (a .t6) (a .m) (part-at .part-at .result .now) (keyAt (a .t8) (at-loop .loop .j) .number) (replicate 64 0) (at-loop .loop .j) (omega arith) (s .pre .4) (part-at .part-at .ensures) refl
+    head-room (a .deck .now) (a .t6) (a .m) (part-at .part-at .result .now) (keyAt (a .t8) (at-loop .loop .j) .number) (replicate 64 0) (at-loop .loop .j) (omega arith) (s .pre .4) (part-at .part-at .ensures .0) refl
 
 mul-put-row : tie.Need-mul-put-row Inv-loop μ-loop
 mul-put-row c = search needs
@@ -74,7 +74,7 @@ part-put-row-end c =
     let at-loop = part-at .before .before .before in
     let s = at-loop .before .before .before in
     let a = s .args in
-    let room = head-room (a .deck .now) (a .t6) (a .m) (part-at .part-at .result .now) (keyAt (a .t8) (at-loop .loop .j) .number) (replicate 64 0) (at-loop .loop .j) (omega arith) (s .pre .4) (part-at .part-at .ensures) refl in
+    let room = head-room (a .deck .now) (a .t6) (a .m) (part-at .part-at .result .now) (keyAt (a .t8) (at-loop .loop .j) .number) (replicate 64 0) (at-loop .loop .j) (omega arith) (s .pre .4) (part-at .part-at .ensures .0) refl in
     omega (arith, room .fits, inked-place (put-head .put-head .ensures), put-head .put-head .ensures .kept)
 
 put-row-requires : tie.Need-put-row-requires Inv-loop μ-loop
@@ -84,8 +84,8 @@ put-row-requires c κs =
     let at-loop = part-at .before .before .before in
     let s = at-loop .before .before .before in
     let a = s .args in
-    let room = head-room (a .deck .now) (a .t6) (a .m) (part-at .part-at .result .now) (keyAt (a .t8) (at-loop .loop .j) .number) (replicate 64 0) (at-loop .loop .j) (omega arith) (s .pre .4) (part-at .part-at .ensures) refl in
-    let head-is = head-at (a .deck .now) (a .t6) (a .t8) (at-loop .loop .j) (part-at .part-at .result .now) _ (part-at .part-at .ensures) (head-bytes (part-at .part-at .result .now) (keyAt (a .t8) (at-loop .loop .j) .number) _ _ _ room (put-head .put-head .ensures)) in
+    let room = head-room (a .deck .now) (a .t6) (a .m) (part-at .part-at .result .now) (keyAt (a .t8) (at-loop .loop .j) .number) (replicate 64 0) (at-loop .loop .j) (omega arith) (s .pre .4) (part-at .part-at .ensures .0) refl in
+    let head-is = head-at (a .deck .now) (a .t6) (a .t8) (at-loop .loop .j) (part-at .part-at .result .now) _ (part-at .part-at .ensures .0) (head-bytes (part-at .part-at .result .now) (keyAt (a .t8) (at-loop .loop .j) .number) _ _ _ room (put-head .put-head .ensures)) in
     let written = row-at-held (a .deck .now) (a .sources) (a .n) (a .t6) (a .t8) (a .cells .now) (at-loop .loop .j) _ head-is in
     let l : at-loop .loop .j < a .m = omega arith in (
       s .pre .0,
@@ -108,8 +108,8 @@ loop-again c =
     let at-loop = part-at .before .before .before in
     let s = at-loop .before .before .before in
     let a = s .args in
-    let room = head-room (a .deck .now) (a .t6) (a .m) (part-at .part-at .result .now) (keyAt (a .t8) (at-loop .loop .j) .number) (replicate 64 0) (at-loop .loop .j) (omega arith) (s .pre .4) (part-at .part-at .ensures) refl in
-    let head-is = head-at (a .deck .now) (a .t6) (a .t8) (at-loop .loop .j) (part-at .part-at .result .now) _ (part-at .part-at .ensures) (head-bytes (part-at .part-at .result .now) (keyAt (a .t8) (at-loop .loop .j) .number) _ _ _ room (put-head .put-head .ensures)) in
+    let room = head-room (a .deck .now) (a .t6) (a .m) (part-at .part-at .result .now) (keyAt (a .t8) (at-loop .loop .j) .number) (replicate 64 0) (at-loop .loop .j) (omega arith) (s .pre .4) (part-at .part-at .ensures .0) refl in
+    let head-is = head-at (a .deck .now) (a .t6) (a .t8) (at-loop .loop .j) (part-at .part-at .result .now) _ (part-at .part-at .ensures .0) (head-bytes (part-at .part-at .result .now) (keyAt (a .t8) (at-loop .loop .j) .number) _ _ _ room (put-head .put-head .ensures)) in
     let written = row-at-held (a .deck .now) (a .sources) (a .n) (a .t6) (a .t8) (a .cells .now) (at-loop .loop .j) _ head-is in
     (search needs, search needs, search needs, inked-more _ _ (at-loop .loop .inv .3) (inked-as written (put-row .put-row .ensures)))
 

@@ -58,7 +58,7 @@ line-length-requires c κs =
     let a = s .args in
     let lines = pairAt (a .deck .now) (a .t2) (a .cells .now) (a .base) (a .head .now) in
     let fronts = front-pair-at (a .deck .now) (a .t2) (a .cells .now) (a .base) (a .head .now) in
-    let written = ap length (line-same (a .head .now) (part-at .part-at .ensures) (amounts .pair-amounts-at .ensures) []) in
+    let written = ap length (line-same (a .head .now) (part-at .part-at .ensures .0) (amounts .pair-amounts-at .ensures) []) in
     omega (arith, written, length-within lines fronts (at-loop .loop .i) (a .n) (omega arith), s .pre .3)
 
 add-size : tie.Need-add-size Inv-loop μ-loop
@@ -71,7 +71,7 @@ add-size c =
     let a = s .args in
     let lines = pairAt (a .deck .now) (a .t2) (a .cells .now) (a .base) (a .head .now) in
     let fronts = front-pair-at (a .deck .now) (a .t2) (a .cells .now) (a .base) (a .head .now) in
-    let written = ap length (line-same (a .head .now) (part-at .part-at .ensures) (amounts .pair-amounts-at .ensures) []) in
+    let written = ap length (line-same (a .head .now) (part-at .part-at .ensures .0) (amounts .pair-amounts-at .ensures) []) in
     record { fits = omega (arith, written, length-within lines fronts (at-loop .loop .i) (a .n) (omega arith), s .pre .3, line-length .line-length .ensures, at-loop .loop .inv .3) }
 
 add-i : tie.Need-add-i Inv-loop μ-loop
@@ -90,7 +90,7 @@ loop-again c =
     let a = s .args in
     let lines = pairAt (a .deck .now) (a .t2) (a .cells .now) (a .base) (a .head .now) in
     let fronts = front-pair-at (a .deck .now) (a .t2) (a .cells .now) (a .base) (a .head .now) in
-    let written = ap length (line-same (a .head .now) (part-at .part-at .ensures) (amounts .pair-amounts-at .ensures) []) in
+    let written = ap length (line-same (a .head .now) (part-at .part-at .ensures .0) (amounts .pair-amounts-at .ensures) []) in
     (search needs, search needs, search needs, omega (arith, written, length-more lines fronts (at-loop .loop .i), line-length .line-length .ensures, at-loop .loop .inv .3))
 
 returns : tie.Need-returns Inv-loop μ-loop

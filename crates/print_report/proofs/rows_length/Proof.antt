@@ -48,7 +48,7 @@ put-head-requires c κs =
     let at-loop = part-at .before .before .before in
     let s = at-loop .before .before in
     let a = s .args in
-    head-room (a .deck .now) (a .t4) (a .m) (part-at .part-at .result .now) (keyAt (a .t6) (at-loop .loop .j) .number) (replicate 64 0) (at-loop .loop .j) (omega arith) (s .pre .4) (part-at .part-at .ensures) refl
+    head-room (a .deck .now) (a .t4) (a .m) (part-at .part-at .result .now) (keyAt (a .t6) (at-loop .loop .j) .number) (replicate 64 0) (at-loop .loop .j) (omega arith) (s .pre .4) (part-at .part-at .ensures .0) refl
 
 mul-row-length : tie.Need-mul-row-length Inv-loop μ-loop
 mul-row-length c = search needs
@@ -74,7 +74,7 @@ part-row-length-end c =
     let at-loop = part-at .before .before .before in
     let s = at-loop .before .before in
     let a = s .args in
-    let room = head-room (a .deck .now) (a .t4) (a .m) (part-at .part-at .result .now) (keyAt (a .t6) (at-loop .loop .j) .number) (replicate 64 0) (at-loop .loop .j) (omega arith) (s .pre .4) (part-at .part-at .ensures) refl in
+    let room = head-room (a .deck .now) (a .t4) (a .m) (part-at .part-at .result .now) (keyAt (a .t6) (at-loop .loop .j) .number) (replicate 64 0) (at-loop .loop .j) (omega arith) (s .pre .4) (part-at .part-at .ensures .0) refl in
     omega (arith, room .fits, inked-place (put-head .put-head .ensures), put-head .put-head .ensures .kept)
 
 row-length-requires : tie.Need-row-length-requires Inv-loop μ-loop
@@ -84,8 +84,8 @@ row-length-requires c κs =
     let at-loop = part-at .before .before .before in
     let s = at-loop .before .before in
     let a = s .args in
-    let room = head-room (a .deck .now) (a .t4) (a .m) (part-at .part-at .result .now) (keyAt (a .t6) (at-loop .loop .j) .number) (replicate 64 0) (at-loop .loop .j) (omega arith) (s .pre .4) (part-at .part-at .ensures) refl in
-    let head-is = head-at (a .deck .now) (a .t4) (a .t6) (at-loop .loop .j) (part-at .part-at .result .now) _ (part-at .part-at .ensures) (head-bytes (part-at .part-at .result .now) (keyAt (a .t6) (at-loop .loop .j) .number) _ _ _ room (put-head .put-head .ensures)) in
+    let room = head-room (a .deck .now) (a .t4) (a .m) (part-at .part-at .result .now) (keyAt (a .t6) (at-loop .loop .j) .number) (replicate 64 0) (at-loop .loop .j) (omega arith) (s .pre .4) (part-at .part-at .ensures .0) refl in
+    let head-is = head-at (a .deck .now) (a .t4) (a .t6) (at-loop .loop .j) (part-at .part-at .result .now) _ (part-at .part-at .ensures .0) (head-bytes (part-at .part-at .result .now) (keyAt (a .t6) (at-loop .loop .j) .number) _ _ _ room (put-head .put-head .ensures)) in
     let written = row-at-held (a .deck .now) (a .sources) (a .n) (a .t4) (a .t6) (a .cells .now) (at-loop .loop .j) _ head-is in
     let rows = rowAt (a .deck .now) (a .sources) (a .n) (a .t4) (a .t6) (a .cells .now) in
     let fronts = front-row-at (a .deck .now) (a .sources) (a .n) (a .t4) (a .t6) (a .cells .now) in
@@ -105,8 +105,8 @@ add-size c =
     let at-loop = part-at .before .before .before in
     let s = at-loop .before .before in
     let a = s .args in
-    let room = head-room (a .deck .now) (a .t4) (a .m) (part-at .part-at .result .now) (keyAt (a .t6) (at-loop .loop .j) .number) (replicate 64 0) (at-loop .loop .j) (omega arith) (s .pre .4) (part-at .part-at .ensures) refl in
-    let head-is = head-at (a .deck .now) (a .t4) (a .t6) (at-loop .loop .j) (part-at .part-at .result .now) _ (part-at .part-at .ensures) (head-bytes (part-at .part-at .result .now) (keyAt (a .t6) (at-loop .loop .j) .number) _ _ _ room (put-head .put-head .ensures)) in
+    let room = head-room (a .deck .now) (a .t4) (a .m) (part-at .part-at .result .now) (keyAt (a .t6) (at-loop .loop .j) .number) (replicate 64 0) (at-loop .loop .j) (omega arith) (s .pre .4) (part-at .part-at .ensures .0) refl in
+    let head-is = head-at (a .deck .now) (a .t4) (a .t6) (at-loop .loop .j) (part-at .part-at .result .now) _ (part-at .part-at .ensures .0) (head-bytes (part-at .part-at .result .now) (keyAt (a .t6) (at-loop .loop .j) .number) _ _ _ room (put-head .put-head .ensures)) in
     let written = row-at-held (a .deck .now) (a .sources) (a .n) (a .t4) (a .t6) (a .cells .now) (at-loop .loop .j) _ head-is in
     let rows = rowAt (a .deck .now) (a .sources) (a .n) (a .t4) (a .t6) (a .cells .now) in
     let fronts = front-row-at (a .deck .now) (a .sources) (a .n) (a .t4) (a .t6) (a .cells .now) in
@@ -127,8 +127,8 @@ loop-again c =
     let at-loop = part-at .before .before .before in
     let s = at-loop .before .before in
     let a = s .args in
-    let room = head-room (a .deck .now) (a .t4) (a .m) (part-at .part-at .result .now) (keyAt (a .t6) (at-loop .loop .j) .number) (replicate 64 0) (at-loop .loop .j) (omega arith) (s .pre .4) (part-at .part-at .ensures) refl in
-    let head-is = head-at (a .deck .now) (a .t4) (a .t6) (at-loop .loop .j) (part-at .part-at .result .now) _ (part-at .part-at .ensures) (head-bytes (part-at .part-at .result .now) (keyAt (a .t6) (at-loop .loop .j) .number) _ _ _ room (put-head .put-head .ensures)) in
+    let room = head-room (a .deck .now) (a .t4) (a .m) (part-at .part-at .result .now) (keyAt (a .t6) (at-loop .loop .j) .number) (replicate 64 0) (at-loop .loop .j) (omega arith) (s .pre .4) (part-at .part-at .ensures .0) refl in
+    let head-is = head-at (a .deck .now) (a .t4) (a .t6) (at-loop .loop .j) (part-at .part-at .result .now) _ (part-at .part-at .ensures .0) (head-bytes (part-at .part-at .result .now) (keyAt (a .t6) (at-loop .loop .j) .number) _ _ _ room (put-head .put-head .ensures)) in
     let written = row-at-held (a .deck .now) (a .sources) (a .n) (a .t4) (a .t6) (a .cells .now) (at-loop .loop .j) _ head-is in
     let rows = rowAt (a .deck .now) (a .sources) (a .n) (a .t4) (a .t6) (a .cells .now) in
     let fronts = front-row-at (a .deck .now) (a .sources) (a .n) (a .t4) (a .t6) (a .cells .now) in
