@@ -63,8 +63,8 @@ module _ (s : List ℕ) (o : Outcome Hour) (losses : ℕ) (n : Counts) (t : Tabl
 
   -- One entry more.
 
-  pub checks-source : (r : SourceStep) → SourceTurn s (w .hour) t at r → r .verdict ≡ Accepted → (slo shi high : List ℕ) (v : Totals) → slo ≡ set (t .slo) (n .sources) (r .key .lo)
-      → shi ≡ set (t .shi) (n .sources) (r .key .hi) → high ≡ set (t .high) (n .sources) (unitHigh (r .entry .plant)) → v ≡ sourceTotalled u (r .entry .plant) → v .generated ≤ u .generated + aboveOne
+  pub checks-source : (r : SourceStep) → SourceTurn s (w .hour) t at r → r .verdict ≡ Accepted → (slo shi high : List ℕ) (v : Totals) → slo ≡ set (t .slo) (n .sources) (r .spelling .lo)
+      → shi ≡ set (t .shi) (n .sources) (r .spelling .hi) → high ≡ set (t .high) (n .sources) (unitHigh (r .entry .plant)) → v ≡ sourceTotalled u (r .entry .plant) → v .generated ≤ u .generated + aboveOne
       → Checks s o losses (record { sources = n .sources + 1; deliveries = n .deliveries; directs = n .directs })
       (record { slo = slo; shi = shi; tlo = t .tlo; thi = t .thi; high = high; based = t .based; percents = t .percents }) v (r .next)
   checks-source r e a slo shi high v le hie he ve most =
@@ -73,12 +73,12 @@ module _ (s : List ℕ) (o : Outcome Hour) (losses : ℕ) (n : Counts) (t : Tabl
         hour = withSource (w .hour) (r .entry);
         counts = ap (λ (n : Counts). record { sources = n .sources + 1; deliveries = n .deliveries; directs = n .directs }) (w .counts);
         losses-are = w .losses-are;
-        reads = reads-source s o (w .hour) t u at (w .reads) r e a slo shi high v (le ∙ ap (λ i. set (t .slo) i (r .key .lo)) k) (hie ∙ ap (λ i. set (t .shi) i (r .key .hi)) k)
+        reads = reads-source s o (w .hour) t u at (w .reads) r e a slo shi high v (le ∙ ap (λ i. set (t .slo) i (r .spelling .lo)) k) (hie ∙ ap (λ i. set (t .shi) i (r .spelling .hi)) k)
             (he ∙ ap (λ i. set (t .high) i (unitHigh (r .entry .plant))) k) ve most;
       }
 
-  pub checks-delivery : (r : DeliveryStep) → DeliveryTurn s (w .hour) t at r → r .verdict ≡ Accepted → (tlo thi : List ℕ) (v : Totals) → tlo ≡ set (t .tlo) (n .deliveries) (r .key .lo)
-      → thi ≡ set (t .thi) (n .deliveries) (r .key .hi) → v ≡ deliveryTotalled u (r .entry) → v .delivered ≤ u .delivered + aboveOne
+  pub checks-delivery : (r : DeliveryStep) → DeliveryTurn s (w .hour) t at r → r .verdict ≡ Accepted → (tlo thi : List ℕ) (v : Totals) → tlo ≡ set (t .tlo) (n .deliveries) (r .spelling .lo)
+      → thi ≡ set (t .thi) (n .deliveries) (r .spelling .hi) → v ≡ deliveryTotalled u (r .entry) → v .delivered ≤ u .delivered + aboveOne
       → Checks s o losses (record { sources = n .sources; deliveries = n .deliveries + 1; directs = n .directs })
       (record { slo = t .slo; shi = t .shi; tlo = tlo; thi = thi; high = t .high; based = t .based; percents = t .percents }) v (r .next)
   checks-delivery r e a tlo thi v le hie ve most =
@@ -87,7 +87,7 @@ module _ (s : List ℕ) (o : Outcome Hour) (losses : ℕ) (n : Counts) (t : Tabl
         hour = withDelivery (w .hour) (r .entry);
         counts = ap (λ (n : Counts). record { sources = n .sources; deliveries = n .deliveries + 1; directs = n .directs }) (w .counts);
         losses-are = w .losses-are;
-        reads = reads-delivery s o (w .hour) t u at (w .reads) r e a tlo thi v (le ∙ ap (λ i. set (t .tlo) i (r .key .lo)) k) (hie ∙ ap (λ i. set (t .thi) i (r .key .hi)) k) ve most;
+        reads = reads-delivery s o (w .hour) t u at (w .reads) r e a tlo thi v (le ∙ ap (λ i. set (t .tlo) i (r .spelling .lo)) k) (hie ∙ ap (λ i. set (t .thi) i (r .spelling .hi)) k) ve most;
       }
 
   pub checks-direct : (y : Direct) (next : ℕ) → DirectTakes s (w .hour) t at y next → (based percents : List ℕ) → based ≡ set (t .based) (y .source) (basisCode (y .basis))

@@ -145,28 +145,28 @@ set-before xs n x default i l = getD-set-other xs n i x default (λ e. omega ari
 module _ (s : List ℕ) (o : Outcome Hour) (h : Hour) (t : Tables) (u : Totals) (at : ℕ) (w : Reads s o h t u at) where
   -- One entry more, set in the tables and added to the totals.
 
-  pub reads-source : (r : SourceStep) → SourceTurn s h t at r → r .verdict ≡ Accepted → (slo shi high : List ℕ) (v : Totals) → slo ≡ set (t .slo) (h .nsources) (r .key .lo)
-      → shi ≡ set (t .shi) (h .nsources) (r .key .hi) → high ≡ set (t .high) (h .nsources) (unitHigh (r .entry .plant)) → v ≡ sourceTotalled u (r .entry .plant) → v .generated ≤ u .generated + aboveOne
+  pub reads-source : (r : SourceStep) → SourceTurn s h t at r → r .verdict ≡ Accepted → (slo shi high : List ℕ) (v : Totals) → slo ≡ set (t .slo) (h .nsources) (r .spelling .lo)
+      → shi ≡ set (t .shi) (h .nsources) (r .spelling .hi) → high ≡ set (t .high) (h .nsources) (unitHigh (r .entry .plant)) → v ≡ sourceTotalled u (r .entry .plant) → v .generated ≤ u .generated + aboveOne
       → Reads s o (withSource h (r .entry))
       (record { slo = slo; shi = shi; tlo = t .tlo; thi = t .thi; high = high; based = t .based; percents = t .percents }) v (r .next)
   reads-source r e a slo shi high v le hie he ve most =
       let k = e .takes a in
       record {
         going = k .goes o (w .going);
-        kept = rw (le, hie, he, k .keyed) (k .kept);
+        kept = rw (le, hie, he, k .spelled) (k .kept);
         totalled = totalled-source (h .sources) (h .nsources) (h .deliveries) (h .ndeliveries) u (w .totalled) (set (h .sources) (h .nsources) (r .entry)) (r .entry) v
             (set-before (h .sources) (h .nsources) (r .entry) noSource) (getD-set-same (h .sources) (h .nsources) (r .entry) noSource (omega (arith, k .room, w .kept .sources-size))) ve most;
       }
 
-  pub reads-delivery : (r : DeliveryStep) → DeliveryTurn s h t at r → r .verdict ≡ Accepted → (tlo thi : List ℕ) (v : Totals) → tlo ≡ set (t .tlo) (h .ndeliveries) (r .key .lo)
-      → thi ≡ set (t .thi) (h .ndeliveries) (r .key .hi) → v ≡ deliveryTotalled u (r .entry) → v .delivered ≤ u .delivered + aboveOne
+  pub reads-delivery : (r : DeliveryStep) → DeliveryTurn s h t at r → r .verdict ≡ Accepted → (tlo thi : List ℕ) (v : Totals) → tlo ≡ set (t .tlo) (h .ndeliveries) (r .spelling .lo)
+      → thi ≡ set (t .thi) (h .ndeliveries) (r .spelling .hi) → v ≡ deliveryTotalled u (r .entry) → v .delivered ≤ u .delivered + aboveOne
       → Reads s o (withDelivery h (r .entry))
       (record { slo = t .slo; shi = t .shi; tlo = tlo; thi = thi; high = t .high; based = t .based; percents = t .percents }) v (r .next)
   reads-delivery r e a tlo thi v le hie ve most =
       let k = e .takes a in
       record {
         going = k .goes o (w .going);
-        kept = rw (le, hie, k .keyed) (k .kept);
+        kept = rw (le, hie, k .spelled) (k .kept);
         totalled = totalled-delivery (h .sources) (h .nsources) (h .deliveries) (h .ndeliveries) u (w .totalled) (set (h .deliveries) (h .ndeliveries) (r .entry)) (r .entry) v
             (set-before (h .deliveries) (h .ndeliveries) (r .entry) noDelivery) (getD-set-same (h .deliveries) (h .ndeliveries) (r .entry) noDelivery (omega (arith, k .room, w .kept .deliveries-size))) ve most;
       }
@@ -242,8 +242,8 @@ module _ (s : List ℕ) (o : Outcome Hour) (h : Hour) (t : Tables) (u : Totals) 
       let n : lineNumber h - 1 ≡ k = omega (arith, order) in
       rw (ne-eqb (length text) 0 (λ z. omega arith)) (e ∙ ap (λ (m : ℕ). m + past 34 (drop m s)) (w .line ∙ ap (lineStart s) n))
 
-  pub rows-source : (r : SourceStep) → SourceTurn s h t at r → r .verdict ≡ Accepted → (slo shi high : List ℕ) (v : Totals) → slo ≡ set (t .slo) (h .nsources) (r .key .lo)
-      → shi ≡ set (t .shi) (h .nsources) (r .key .hi) → high ≡ set (t .high) (h .nsources) (unitHigh (r .entry .plant)) → v ≡ sourceTotalled u (r .entry .plant) → v .generated ≤ u .generated + aboveOne
+  pub rows-source : (r : SourceStep) → SourceTurn s h t at r → r .verdict ≡ Accepted → (slo shi high : List ℕ) (v : Totals) → slo ≡ set (t .slo) (h .nsources) (r .spelling .lo)
+      → shi ≡ set (t .shi) (h .nsources) (r .spelling .hi) → high ≡ set (t .high) (h .nsources) (unitHigh (r .entry .plant)) → v ≡ sourceTotalled u (r .entry .plant) → v .generated ≤ u .generated + aboveOne
       → Rows s o (withSource h (r .entry))
       (record { slo = slo; shi = shi; tlo = t .tlo; thi = t .thi; high = high; based = t .based; percents = t .percents }) v
       (set ps (h .nsources) (r .place)) qs (r .next)
@@ -257,8 +257,8 @@ module _ (s : List ℕ) (o : Outcome Hour) (h : Hour) (t : Tables) (u : Totals) 
         deliveries = placed-still s _ _ _ qs (λ j. rw (le-ltb j (h .ndeliveries) (omega (arith, k .ordered)))) (w .deliveries);
       }
 
-  pub rows-delivery : (r : DeliveryStep) → DeliveryTurn s h t at r → r .verdict ≡ Accepted → (tlo thi : List ℕ) (v : Totals) → tlo ≡ set (t .tlo) (h .ndeliveries) (r .key .lo)
-      → thi ≡ set (t .thi) (h .ndeliveries) (r .key .hi) → v ≡ deliveryTotalled u (r .entry) → v .delivered ≤ u .delivered + aboveOne
+  pub rows-delivery : (r : DeliveryStep) → DeliveryTurn s h t at r → r .verdict ≡ Accepted → (tlo thi : List ℕ) (v : Totals) → tlo ≡ set (t .tlo) (h .ndeliveries) (r .spelling .lo)
+      → thi ≡ set (t .thi) (h .ndeliveries) (r .spelling .hi) → v ≡ deliveryTotalled u (r .entry) → v .delivered ≤ u .delivered + aboveOne
       → Rows s o (withDelivery h (r .entry))
       (record { slo = t .slo; shi = t .shi; tlo = tlo; thi = thi; high = t .high; based = t .based; percents = t .percents }) v
       ps (set qs (h .ndeliveries) (r .place)) (r .next)

@@ -32,7 +32,7 @@ use Rattle.read_lines.specs.declared.DirectLine.the-variants.{Read as DirectRea
 use Rattle.ranges.specs.Inside.{plantInside, judged, deliveryInside, directInside}
 use Rattle.ranges.specs.declared.JudgedUnit.{JudgedUnit}
 use Rattle.ranges.specs.declared.JudgedUnit.the-variants.{Inside, Outside}
-use Rattle.line_rules.specs.Keys.{keyOf}
+use Rattle.line_rules.specs.Spellings.{spellingOf}
 use Rattle.line_rules.specs.Tried.{entryOf, nextLine, sourceTried, deliveryTried, Tables, directTried}
 use Rattle.line_rules.specs.declared.Counts.{Counts}
 use Rattle.line_rules.specs.declared.Entry.the-variants.{Unnamed}
@@ -45,15 +45,15 @@ use Rattle.deck.specs.declared.DirectStep.{DirectStep}
 -- Source lines.
 
 abbrev pub sourceRefused : Refusal → SourceStep
-sourceRefused r = record { verdict = Refused r; entry = blankSource; key = record { lo = 0; hi = 0 }; place = record { from = 0; upto = 0 }; next = 0 }
+sourceRefused r = record { verdict = Refused r; entry = blankSource; spelling = record { lo = 0; hi = 0 }; place = record { from = 0; upto = 0 }; next = 0 }
 
 -- a source whose numbers are in their ranges or not, and whose label stands at a place
 unfoldable pub sourceStep : List ℕ → Counts → List ℕ → List ℕ → Bool → Plant → fields.Place → ℕ → SourceStep
 sourceStep s n lo hi inRange plant p next =
     record {
-      verdict = verdictOf (sourceTried n inRange plant (keyOf (labelOf (charsAt s p))) lo hi);
+      verdict = verdictOf (sourceTried n inRange plant (spellingOf (labelOf (charsAt s p))) lo hi);
       entry = record { plant = plant; label = labelOf (charsAt s p) };
-      key = keyOf (labelOf (charsAt s p));
+      spelling = spellingOf (labelOf (charsAt s p));
       place = record { from = p .from; upto = p .upto };
       next = next;
     }
@@ -107,14 +107,14 @@ sourceFrom s at letter n lo hi = lineStep s n lo hi (plantFrom s at letter)
 -- T lines.
 
 abbrev pub deliveryRefused : Refusal → DeliveryStep
-deliveryRefused r = record { verdict = Refused r; entry = blankDelivery; key = record { lo = 0; hi = 0 }; place = record { from = 0; upto = 0 }; next = 0 }
+deliveryRefused r = record { verdict = Refused r; entry = blankDelivery; spelling = record { lo = 0; hi = 0 }; place = record { from = 0; upto = 0 }; next = 0 }
 
 unfoldable pub deliveryTook : List ℕ → Counts → List ℕ → List ℕ → ℕ → ℕ → ℕ → ℕ → fields.Place → ℕ → DeliveryStep
 deliveryTook s n lo hi sequence kind block mwh p next =
     record {
-      verdict = verdictOf (deliveryTried n (deliveryInside sequence kind block mwh) (keyOf (labelOf (charsAt s p))) lo hi);
+      verdict = verdictOf (deliveryTried n (deliveryInside sequence kind block mwh) (spellingOf (labelOf (charsAt s p))) lo hi);
       entry = record { sequence = record { 0 = sequence }; kind = kind; block = block; mwh = mwh; label = labelOf (charsAt s p) };
-      key = keyOf (labelOf (charsAt s p));
+      spelling = spellingOf (labelOf (charsAt s p));
       place = record { from = p .from; upto = p .upto };
       next = next;
     }
@@ -131,7 +131,7 @@ directTook s n t basis percent unit delivery next =
     record {
       entry = entryOf
           (directTried n (directInside basis percent)
-          (record { basis = basis; percent = percent; unit = keyOf (labelOf (charsAt s unit)); delivery = keyOf (labelOf (charsAt s delivery)) }) t);
+          (record { basis = basis; percent = percent; unit = spellingOf (labelOf (charsAt s unit)); delivery = spellingOf (labelOf (charsAt s delivery)) }) t);
       next = next;
     }
 

@@ -42,13 +42,13 @@ use Rattle.ranges.specs.Inside.{plantInside, unitMade, deliveryInside, directIn
 use Rattle.ranges.specs.declared.UnitNumbers.{UnitNumbers}
 use Rattle.ranges.specs.declared.JudgedUnit.the-variants.{Inside, Outside}
 use Rattle.ranges.specs.RangedIsInside.{unit-inside, purchase-inside, fixed-inside, delivery-inside, direct-inside}
-use Rattle.line_rules.specs.Keys.{keyOf}
-use Rattle.line_rules.specs.KeyTells.{labelled}
+use Rattle.line_rules.specs.Spellings.{spellingOf}
+use Rattle.line_rules.specs.SpellingTells.{labelled}
 use Rattle.line_rules.specs.Tried.{countsOf, nextLine, sourceTried, deliveryTried, Tables, directTried}
 use Rattle.line_rules.specs.Kept.{Kept}
 use Rattle.line_rules.specs.TriedIsTaken.{source-tried, delivery-tried, direct-tried}
 use Rattle.line_rules.specs.TablesKept.{entry-named, entry-unnamed, source-let, delivery-let, direct-let, sourceAdded, kept-source, deliveryAdded, kept-delivery, directAdded, kept-direct}
-use Rattle.line_rules.specs.declared.Key.{Key}
+use Rattle.line_rules.specs.declared.Spelling.{Spelling}
 use Rattle.line_rules.specs.declared.DirectLine.{DirectLine}
 use Rattle.line_rules.specs.declared.Entry.the-variants.{Named, Unnamed}
 use Rattle.deck.specs.Answers.{Holds}
@@ -86,11 +86,11 @@ abbrev pub Goes : List ℕ → Hour → ℕ → Hour → ℕ → Type 0
 Goes s h at after next = (o : Outcome Hour) → Going s h at o → Going s after next o
 
 -- a line of a class with n entries, k lines after the first, whose label stands at a place
-pub record Takes (s : List ℕ) (h : Hour) (at n k : ℕ) (after : Hour) (tables : Tables) (label : Label) (key : Key) (place : Place) (next : ℕ) : Type 0 where
+pub record Takes (s : List ℕ) (h : Hour) (at n k : ℕ) (after : Hour) (tables : Tables) (label : Label) (spelling : Spelling) (place : Place) (next : ℕ) : Type 0 where
   pub goes : Goes s h at after next
   pub kept : Kept after tables
   pub room : n < 32
-  pub keyed : key ≡ keyOf label
+  pub spelled : spelling ≡ spellingOf label
   pub holds : Holds s (escape (chars label)) place
   pub further : at < next
   pub ordered : lineNumber h ≡ k + 1
@@ -98,20 +98,20 @@ pub record Takes (s : List ℕ) (h : Hour) (at n k : ℕ) (after : Hour) (tables
   pub starts : place .from ≡ at + past 34 (drop at s)
   pub ends : next ≡ at + past 10 (drop at s)
 
-pub record Turn (s : List ℕ) (h : Hour) (at n k : ℕ) (verdict : Verdict) (after : Hour) (tables : Tables) (label : Label) (key : Key) (place : Place) (next : ℕ) : Type 0 where
+pub record Turn (s : List ℕ) (h : Hour) (at n k : ℕ) (verdict : Verdict) (after : Hour) (tables : Tables) (label : Label) (spelling : Spelling) (place : Place) (next : ℕ) : Type 0 where
   pub refuses : (r : Refusal) → verdict ≡ Refused r → Refuses s h at r
-  pub takes : verdict ≡ Accepted → Takes s h at n k after tables label key place next
+  pub takes : verdict ≡ Accepted → Takes s h at n k after tables label spelling place next
 
 abbrev pub SourceTurn : List ℕ → Hour → Tables → ℕ → SourceStep → Type 0
 SourceTurn s h t at r =
-    Turn s h at (h .nsources) (h .nsources + 1) (r .verdict) (withSource h (r .entry)) (sourceAdded t (h .nsources) (r .entry)) (r .entry .label) (r .key) (r .place) (r .next)
+    Turn s h at (h .nsources) (h .nsources + 1) (r .verdict) (withSource h (r .entry)) (sourceAdded t (h .nsources) (r .entry)) (r .entry .label) (r .spelling) (r .place) (r .next)
 
 abbrev pub DeliveryTurn : List ℕ → Hour → Tables → ℕ → DeliveryStep → Type 0
 DeliveryTurn s h t at r =
-    Turn s h at (h .ndeliveries) (h .nsources + h .ndeliveries + 1) (r .verdict) (withDelivery h (r .entry)) (deliveryAdded t (h .ndeliveries) (r .entry)) (r .entry .label) (r .key) (r .place) (r .next)
+    Turn s h at (h .ndeliveries) (h .nsources + h .ndeliveries + 1) (r .verdict) (withDelivery h (r .entry)) (deliveryAdded t (h .ndeliveries) (r .entry)) (r .entry .label) (r .spelling) (r .place) (r .next)
 
-module _ (s : List ℕ) (h : Hour) (at n k : ℕ) (after : Hour) (tables : Tables) (label : Label) (key : Key) (place : Place) (next : ℕ) where
-  refused-turn : (r : Refusal) → Refuses s h at r → Turn s h at n k (Refused r) after tables label key place next
+module _ (s : List ℕ) (h : Hour) (at n k : ℕ) (after : Hour) (tables : Tables) (label : Label) (spelling : Spelling) (place : Place) (next : ℕ) where
+  refused-turn : (r : Refusal) → Refuses s h at r → Turn s h at n k (Refused r) after tables label spelling place next
   refused-turn r e =
       record {
         refuses = λ q v. let is : r ≡ q = cc in λ o g. e o g ∙ ap refused is;
@@ -123,7 +123,7 @@ module _ (s : List ℕ) (h : Hour) (at n k : ℕ) (after read : Hour) (tables : 
   tried-turn : lineAt s at ≡ got l next → isEnd (l .letter) ≡ false → LabelStands s p → Escaped s p → at < next
       → (lineRanged l ≡ true → p .from ≡ at + past 34 (drop at s)) → taken h l ≡ andThen tried (λ u. accepted read)
       → (taken h l ≡ accepted read → lineNumber h ≡ k + 1) → (tried ≡ accepted tt → (read ≡ after) × Kept after tables × (n < 32))
-      → Turn s h at n k (verdictOf tried) after tables (labelOf (charsAt s p)) (keyOf (labelOf (charsAt s p))) (record { from = p .from; upto = p .upto }) next
+      → Turn s h at n k (verdictOf tried) after tables (labelOf (charsAt s p)) (spellingOf (labelOf (charsAt s p))) (record { from = p .from; upto = p .upto }) next
   tried-turn e i st es far first t order lets =
       record {
         refuses = λ r v o g. goes-refused s h at o g l next e r i (t ∙ ap (λ (x : Outcome (Unit {0})). andThen x (λ u. accepted read)) (verdict-refused tried r v));
@@ -136,7 +136,7 @@ module _ (s : List ℕ) (h : Hour) (at n k : ℕ) (after read : Hour) (tables : 
               goes = λ o g. goes-on s h at o g l next e after (is ∙ ap accepted (q .0));
               kept = q .1;
               room = q .2;
-              keyed = refl;
+              spelled = refl;
               holds = record { order = st .order; within = st .within; bytes = sym es ∙ ap escape (sym (chars-label (charsAt s p))) };
               further = far;
               ordered = order is;
@@ -159,12 +159,12 @@ module _ (s : List ℕ) (h : Hour) (t : Tables) (k : Kept h t) (at : ℕ) where
       let x : Source = record { plant = plant; label = labelOf (charsAt s p) } in
       let y : Source = record { plant = read; label = labelOf (charsAt s p) } in
       let lb = labelled (charsAt s p) (st .label) in
-      let tried = sourceTried (countsOf h) inRange plant (keyOf (labelOf (charsAt s p))) (t .slo) (t .shi) in
+      let tried = sourceTried (countsOf h) inRange plant (spellingOf (labelOf (charsAt s p))) (t .slo) (t .shi) in
       tried-turn s h at (h .nsources) (h .nsources + 1) (withSource h x) (withSource h y) (sourceAdded t (h .nsources) x) p next l tried e i st es far first
       (took ∙ source-tried h t k inRange y plant lb same)
       (λ is. omega (arith, source-taken h inRange y (withSource h y) (sym took ∙ is) .1 .alone))
       (λ a.
-      let r = source-let (countsOf h) inRange plant (keyOf (labelOf (charsAt s p))) (t .slo) (t .shi) a in (
+      let r = source-let (countsOf h) inRange plant (spellingOf (labelOf (charsAt s p))) (t .slo) (t .shi) a in (
         ap (λ (z : Plant). withSource h (record { plant = z; label = labelOf (charsAt s p) })) (sym (same (r .within))),
         kept-source h t k inRange x lb within a,
         r .room,
@@ -286,14 +286,14 @@ module _ (s : List ℕ) (h : Hour) (t : Tables) (k : Kept h t) (at : ℕ) where
           let lb = labelled (charsAt s p) (st .label) in
           let in-range = deliveryInside (c .0) (c .1 .0) (c .1 .1 .0) (c .1 .1 .1 .0) in
           let same : ranged ks w ≡ in-range = sym (ranged-cut T s v) ∙ delivery-inside c in
-          let tried = deliveryTried (countsOf h) in-range (keyOf (labelOf (charsAt s p))) (t .tlo) (t .thi) in
+          let tried = deliveryTried (countsOf h) in-range (spellingOf (labelOf (charsAt s p))) (t .tlo) (t .thi) in
           tried-turn s h at (h .ndeliveries) (h .nsources + h .ndeliveries + 1) (withDelivery h (deliveryOf c)) (withDelivery h (deliveryOf w)) (deliveryAdded t (h .ndeliveries) (deliveryOf c)) p next
           (line T w) tried (line-got s at T b v next e) refl st (line-escaped s T (at + 1) v next e .0) (omega (arith, ls .after))
           (λ r. label-starts s T at v next p b r e refl)
           (ap (λ (r : Bool). reading.deliveryTaken h r (deliveryOf w)) same ∙ delivery-tried h t k in-range (deliveryOf w) lb)
           (λ is. omega (arith, delivery-taken h (ranged ks w) (deliveryOf w) (withDelivery h (deliveryOf w)) is .1 .alone))
           (λ a.
-          let r = delivery-let (countsOf h) in-range (keyOf (labelOf (charsAt s p))) (t .tlo) (t .thi) a in (
+          let r = delivery-let (countsOf h) in-range (spellingOf (labelOf (charsAt s p))) (t .tlo) (t .thi) a in (
             ap (λ (v : Fields fields.Place ks). withDelivery h (deliveryOf (seen ks s v))) (sym (cut-ranged T s v (same ∙ r .within))),
             kept-delivery h t k in-range (deliveryOf c) lb a,
             r .room,
@@ -333,7 +333,7 @@ direct-at-turn s h t k at be = go (placesAt s (at + 1) D) refl
         let delivery = labelOf (charsAt s (v .1 .1 .1 .0)) in
         let in-range = directInside (c .0) (c .1 .0) in
         let same : ranged ks w ≡ in-range = sym (ranged-cut D s v) ∙ direct-inside c in
-        let x : DirectLine = record { basis = c .0; percent = c .1 .0; unit = keyOf unit; delivery = keyOf delivery } in
+        let x : DirectLine = record { basis = c .0; percent = c .1 .0; unit = spellingOf unit; delivery = spellingOf delivery } in
         let tried = directTried (countsOf h) in-range x t in
         let cut : in-range ≡ true → cutFields ks v ≡ v = λ r. cut-ranged D s v (same ∙ r) in
         let took : taken h (line D w) ≡ andThen tried (λ y. accepted (withDirect h y))

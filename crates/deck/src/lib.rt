@@ -15,14 +15,14 @@ ghost use Rattle.rules.specs.Places.{lineStart};
 ghost use Rattle.read_fields.specs.Answers.{stepOf};
 ghost use Rattle.read_lines.specs.Answers.{unitLine, purchaseLine, fixedLine, deliveryLine, directLine};
 ghost use Rattle.read_lines.specs.Cut.{LabelStands};
-ghost use Rattle.line_rules.specs.Keys.{keyOf};
+ghost use Rattle.line_rules.specs.Spellings.{spellingOf};
 ghost use Rattle.line_rules.specs.Tried.{Few};
 ghost use Rattle.deck.specs.Answers.{readAnswer, bytesOf, refusedScan, Scanned};
 ghost use Rattle.deck.specs.FirstLine.{headRefused, headStep, readerAt, rowsAfter, Follows};
 ghost use Rattle.deck.specs.Steps.{unitSource, purchaseSource, fixedSource, plantFrom, sourceFrom, sourceRefused, deliveryRefused, deliveryStep, directStep, endVerdict};
 use line_rules::Counts;
 use line_rules::Entry;
-use line_rules::Key;
+use line_rules::Spelling;
 use line_rules::Totals;
 use ranges::JudgedUnit;
 use read_fields::Step;
@@ -81,11 +81,11 @@ enum SourceLine {
     Malformed,
 }
 
-// A line at hand: the verdict on it, and for one that is taken its entry, the key and the place of its label, and the place after the line.
+// A line at hand: the verdict on it, and for one that is taken its entry, the spelling and the place of its label, and the place after the line.
 struct SourceStep {
     verdict: Verdict,
     entry: Source,
-    key: Key,
+    spelling: Spelling,
     place: Place,
     next: usize,
 }
@@ -93,7 +93,7 @@ struct SourceStep {
 struct DeliveryStep {
     verdict: Verdict,
     entry: Delivery,
-    key: Key,
+    spelling: Spelling,
     place: Place,
     next: usize,
 }
@@ -182,7 +182,7 @@ fn source_refused(r: Refusal) -> SourceStep
     SourceStep {
         verdict: Verdict::Refused(r),
         entry,
-        key: Key { lo: 0, hi: 0 },
+        spelling: Spelling { lo: 0, hi: 0 },
         place: Place { from: 0, upto: 0 },
         next: 0,
     }
@@ -256,12 +256,12 @@ fn source_at(
         return source_refused(Refusal::Form(line));
     };
     let label = read_fields::label_at(&s[from..upto]);
-    let key = line_rules::key_of(label);
-    let verdict = line_rules::take_source(n, ranged, plant, key, lo, hi);
+    let spelling = line_rules::spelling_of(label);
+    let verdict = line_rules::take_source(n, ranged, plant, spelling, lo, hi);
     SourceStep {
         verdict,
         entry: Source { plant, label },
-        key,
+        spelling,
         place: Place { from, upto },
         next,
     }
@@ -276,7 +276,7 @@ fn delivery_refused(r: Refusal) -> DeliveryStep
     DeliveryStep {
         verdict: Verdict::Refused(r),
         entry,
-        key: Key { lo: 0, hi: 0 },
+        spelling: Spelling { lo: 0, hi: 0 },
         place: Place { from: 0, upto: 0 },
         next: 0,
     }
@@ -294,9 +294,9 @@ fn delivery_at(s: &[u8], at: usize, n: Counts, lo: &[u64; 32], hi: &[u64; 32]) -
         return delivery_refused(Refusal::Form(line));
     };
     let label = read_fields::label_at(&s[from..upto]);
-    let key = line_rules::key_of(label);
+    let spelling = line_rules::spelling_of(label);
     let ranged = ranges::delivery_in_range(sequence, kind, block, mwh);
-    let verdict = line_rules::take_delivery(n, ranged, key, lo, hi);
+    let verdict = line_rules::take_delivery(n, ranged, spelling, lo, hi);
     DeliveryStep {
         verdict,
         entry: Delivery {
@@ -306,7 +306,7 @@ fn delivery_at(s: &[u8], at: usize, n: Counts, lo: &[u64; 32], hi: &[u64; 32]) -
             mwh,
             label,
         },
-        key,
+        spelling,
         place: Place { from, upto },
         next,
     }
@@ -314,12 +314,12 @@ fn delivery_at(s: &[u8], at: usize, n: Counts, lo: &[u64; 32], hi: &[u64; 32]) -
 
 // A D line, from the place after its letter.
 
-fn key_at(s: &[u8], from: usize, upto: usize) -> Key
+fn spelling_at(s: &[u8], from: usize, upto: usize) -> Spelling
     requires { ⌜ LabelStands (now s) (record { from = from; upto = upto }) ⌝ }
-    ensures { λ r. ⌜ r ≡ keyOf (labelOf (charsAt (now (s .entry)) (record { from = from; upto = upto }))) ⌝ }
+    ensures { λ r. ⌜ r ≡ spellingOf (labelOf (charsAt (now (s .entry)) (record { from = from; upto = upto }))) ⌝ }
 {
     let label = read_fields::label_at(&s[from..upto]);
-    line_rules::key_of(label)
+    line_rules::spelling_of(label)
 }
 
 fn direct_at(
@@ -345,8 +345,8 @@ fn direct_at(
             next: 0,
         };
     };
-    let unit = key_at(s, from, upto);
-    let delivery = key_at(s, begin, end);
+    let unit = spelling_at(s, from, upto);
+    let delivery = spelling_at(s, begin, end);
     let ranged = ranges::direct_in_range(basis, percent);
     let x = line_rules::DirectLine {
         basis,
@@ -434,8 +434,8 @@ fn rows(s: &[u8], losses: u32, from: usize) -> ScannedDeck
                 return refused(r);
             }
             let m = h.ndeliveries;
-            let k = x.key;
-            line_rules::keep_key(m, k, &mut tlo, &mut thi);
+            let k = x.spelling;
+            line_rules::keep_spelling(m, k, &mut tlo, &mut thi);
             let place = x.place;
             deliveries[m] = place;
             let e = x.entry;
@@ -466,8 +466,8 @@ fn rows(s: &[u8], losses: u32, from: usize) -> ScannedDeck
                 return refused(r);
             }
             let m = h.nsources;
-            let k = x.key;
-            line_rules::keep_key(m, k, &mut slo, &mut shi);
+            let k = x.spelling;
+            line_rules::keep_spelling(m, k, &mut slo, &mut shi);
             let e = x.entry;
             let p = e.plant;
             high[m] = line_rules::unit_high(p);
@@ -541,8 +541,8 @@ fn check_rows(s: &[u8], losses: u32, from: usize) -> Verdict
             if let Verdict::Refused(r) = v {
                 return Verdict::Refused(r);
             }
-            let k = x.key;
-            line_rules::keep_key(n.deliveries, k, &mut tlo, &mut thi);
+            let k = x.spelling;
+            line_rules::keep_spelling(n.deliveries, k, &mut tlo, &mut thi);
             let e = x.entry;
             totals = line_rules::add_delivery(totals, e);
             n.deliveries = n.deliveries + 1;
@@ -561,8 +561,8 @@ fn check_rows(s: &[u8], losses: u32, from: usize) -> Verdict
                 return Verdict::Refused(r);
             }
             let m = n.sources;
-            let k = x.key;
-            line_rules::keep_key(m, k, &mut slo, &mut shi);
+            let k = x.spelling;
+            line_rules::keep_spelling(m, k, &mut slo, &mut shi);
             let e = x.entry;
             let p = e.plant;
             high[m] = line_rules::unit_high(p);

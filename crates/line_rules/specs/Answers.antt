@@ -17,7 +17,7 @@ use Rattle.rules.specs.declared.Refusal.the-variants.{Overdrawn, Unplaced}
 use Rattle.rules.specs.declared.Verdict.the-variants.{Accepted, Refused}
 use Rattle.laws.specs.Lists.{findTo-passes}
 use Rattle.roundtrip.specs.FirstUnplaced.{placer, all-numbered, none-numbered}
-use Rattle.line_rules.specs.Keys.{spotOf}
+use Rattle.line_rules.specs.Spellings.{spotOf}
 use Rattle.line_rules.specs.Finds.{findTo-zero, findTo-here, findTo-fails}
 use Rattle.line_rules.specs.declared.Spot.{Spot}
 use Rattle.line_rules.specs.declared.Spot.the-variants.{At}

@@ -14,7 +14,7 @@ use Rattle.rules.specs.Words as words
 use Rattle.rules.specs.Words.{if_then_else_, allTo, anyTo, _otherwise_, findTo}
 use Rattle.laws.specs.Choices.{true-not-false}
 use Rattle.laws.specs.Lists.{findTo-none, findTo-passes}
-use Rattle.line_rules.specs.Keys.{spotOf}
+use Rattle.line_rules.specs.Spellings.{spotOf}
 use Rattle.line_rules.specs.Tried.{isFound}
 
 -- Truth values.

@@ -1,9 +1,9 @@
-pub mod Keys
+pub mod Spellings
 pub mod Tried
 pub mod Finds
 pub mod Answers
-pub mod Packed
-pub mod KeyTells
+pub mod ToBase256
+pub mod SpellingTells
 pub mod Pairs
 pub mod Kept
 pub mod TriedIsTaken

@@ -38,14 +38,14 @@ use Rattle.roundtrip.specs.Fields.{inside-from}
 use Rattle.roundtrip.specs.Entries.{line-ranged}
 use Rattle.ranges.specs.Inside as tests
 use Rattle.ranges.specs.Inside.{plantInside}
-use Rattle.line_rules.specs.Keys.{keyOf, spotOf, keyAt, keyTo}
+use Rattle.line_rules.specs.Spellings.{spellingOf, spotOf, spellingAt, spellingTo}
 use Rattle.line_rules.specs.Tried as tried
 use Rattle.line_rules.specs.Tried.{entryOf, countsOf, nextLine, isFound, labelTried, sourceTried, deliveryTried, Tables, unitHigh, basisCode, codeLeaves, belowMost, pairFound, onPair, directTried}
 use Rattle.line_rules.specs.Finds.{truths-same, and-false, and-true, allTo-set}
 use Rattle.line_rules.specs.Pairs.{pair-within}
-use Rattle.line_rules.specs.KeyTells.{Labelled}
-use Rattle.line_rules.specs.Kept.{keyed-none, keyed-more, High, Kept}
-use Rattle.line_rules.specs.declared.Key.{Key}
+use Rattle.line_rules.specs.SpellingTells.{Labelled}
+use Rattle.line_rules.specs.Kept.{spelled-none, spelled-more, High, Kept}
+use Rattle.line_rules.specs.declared.Spelling.{Spelling}
 use Rattle.line_rules.specs.declared.Counts.{Counts}
 use Rattle.line_rules.specs.declared.DirectLine.{DirectLine}
 use Rattle.line_rules.specs.declared.Entry.the-variants.{Named, Unnamed}
@@ -65,36 +65,36 @@ entry-unnamed (refused s) r e = let q : s ≡ r = cc in ap refused q
 -- What a line that is let through has shown.
 
 -- a source or T line, in a class with n entries
-pub record Let (inRange : Bool) (n : ℕ) (key : Key) (lo hi : List ℕ) : Type 0 where
+pub record Let (inRange : Bool) (n : ℕ) (spelling : Spelling) (lo hi : List ℕ) : Type 0 where
   pub within : inRange ≡ true
   pub room : n < 32
-  pub unused : keyTo lo hi key n ≡ none
+  pub unused : spellingTo lo hi spelling n ≡ none
 
 not-found : (x : Option ℕ) → isFound (spotOf x) ≡ false → x ≡ none
 not-found none e = refl
 not-found (some i) e = true-not-false e
 
-label-let : (line : ℕ) (inRange : Bool) (n : ℕ) (key : Key) (lo hi : List ℕ) → labelTried line inRange n key lo hi ≡ accepted tt → Let inRange n key lo hi
+label-let : (line : ℕ) (inRange : Bool) (n : ℕ) (spelling : Spelling) (lo hi : List ℕ) → labelTried line inRange n spelling lo hi ≡ accepted tt → Let inRange n spelling lo hi
 unfolding tried.labelTried
-label-let line inRange n key lo hi e =
+label-let line inRange n spelling lo hi e =
     let a = refuse-passed (not inRange) _ _ tt e in
     let b = refuse-passed (leb 32 n) _ _ tt (a .1) in
-    let c = refuse-passed (isFound (spotOf (keyTo lo hi key n))) _ _ tt (b .1) in
+    let c = refuse-passed (isFound (spotOf (spellingTo lo hi spelling n))) _ _ tt (b .1) in
     record { within = not-false inRange (a .0); room = leb-false 32 n (b .0); unused = not-found _ (c .0) }
 
-pub source-let : (n : Counts) (inRange : Bool) (plant : Plant) (key : Key) (lo hi : List ℕ) → sourceTried n inRange plant key lo hi ≡ accepted tt
-    → Let inRange (n .sources) key lo hi
+pub source-let : (n : Counts) (inRange : Bool) (plant : Plant) (spelling : Spelling) (lo hi : List ℕ) → sourceTried n inRange plant spelling lo hi ≡ accepted tt
+    → Let inRange (n .sources) spelling lo hi
 unfolding tried.sourceTried
-source-let n inRange plant key lo hi e =
+source-let n inRange plant spelling lo hi e =
     let a = refuse-passed (not (eqb (n .deliveries + n .directs) 0)) _ _ tt e in
-    let b = then-passed (labelTried (nextLine n) inRange (n .sources) key lo hi) _ tt (a .1) in
-    label-let (nextLine n) inRange (n .sources) key lo hi (b .first)
+    let b = then-passed (labelTried (nextLine n) inRange (n .sources) spelling lo hi) _ tt (a .1) in
+    label-let (nextLine n) inRange (n .sources) spelling lo hi (b .first)
 
-pub delivery-let : (n : Counts) (inRange : Bool) (key : Key) (lo hi : List ℕ) → deliveryTried n inRange key lo hi ≡ accepted tt
-    → Let inRange (n .deliveries) key lo hi
+pub delivery-let : (n : Counts) (inRange : Bool) (spelling : Spelling) (lo hi : List ℕ) → deliveryTried n inRange spelling lo hi ≡ accepted tt
+    → Let inRange (n .deliveries) spelling lo hi
 unfolding tried.deliveryTried
-delivery-let n inRange key lo hi e =
-    label-let (nextLine n) inRange (n .deliveries) key lo hi (refuse-passed (not (eqb (n .directs) 0)) _ _ tt e .1)
+delivery-let n inRange spelling lo hi e =
+    label-let (nextLine n) inRange (n .deliveries) spelling lo hi (refuse-passed (not (eqb (n .directs) 0)) _ _ tt e .1)
 
 pub record DirectLet (n : Counts) (inRange : Bool) (x : DirectLine) (t : Tables) (y : Direct) : Type 0 where
   pub within : inRange ≡ true
@@ -103,8 +103,8 @@ pub record DirectLet (n : Counts) (inRange : Bool) (x : DirectLine) (t : Tables)
   pub percent : y .percent ≡ x .percent
   pub source : y .source < n .sources
   pub delivery : y .delivery < n .deliveries
-  pub unit-key : keyAt (t .slo) (t .shi) (y .source) ≡ x .unit
-  pub delivery-key : keyAt (t .tlo) (t .thi) (y .delivery) ≡ x .delivery
+  pub unit-spelling : spellingAt (t .slo) (t .shi) (y .source) ≡ x .unit
+  pub delivery-spelling : spellingAt (t .tlo) (t .thi) (y .delivery) ≡ x .delivery
   pub leaves : codeLeaves (getD (t .based) (y .source) 0) (y .basis) ≡ true
   pub total : getD (t .percents) (y .source) 0 + y .percent ≤ 100
 
@@ -136,8 +136,8 @@ direct-let n inRange x t y e =
       percent = refl;
       source = d .source;
       delivery = d .delivery;
-      unit-key = d .unit-key;
-      delivery-key = d .delivery-key;
+      unit-spelling = d .unit-spelling;
+      delivery-spelling = d .delivery-spelling;
       leaves = both-true (codeLeaves (getD (t .based) (c .i) 0) (x .basis)) _ (not-false _ (g .0)) .0;
       total = ltb-false 100 (getD (t .percents) (c .i) 0 + x .percent) (p .0);
     })
@@ -167,8 +167,8 @@ kept-started losses =
       high-size = refl;
       based-size = refl;
       percents-size = refl;
-      sources = keyed-none _;
-      deliveries = keyed-none _;
+      sources = spelled-none _;
+      deliveries = spelled-none _;
       high = λ i l. absurd (omega arith);
       based = λ i l b. rw (getD-replicate {A = ℕ} 32 i 0 0 l);
       percents = λ i l. sym (getD-replicate 32 i 0 0 l);
@@ -188,8 +188,8 @@ high-inside (F g) e = record { is = refl; unit = refl }
 abbrev pub sourceAdded : Tables → ℕ → Source → Tables
 sourceAdded t n x =
     record {
-      slo = set (t .slo) n (keyOf (x .label) .lo);
-      shi = set (t .shi) n (keyOf (x .label) .hi);
+      slo = set (t .slo) n (spellingOf (x .label) .lo);
+      shi = set (t .shi) n (spellingOf (x .label) .hi);
       tlo = t .tlo;
       thi = t .thi;
       high = set (t .high) n (unitHigh (x .plant));
@@ -198,9 +198,9 @@ sourceAdded t n x =
     }
 
 pub kept-source : (h : Hour) (t : Tables) → Kept h t → (inRange : Bool) (x : Source) → Labelled (x .label) → (inRange ≡ true → plantInside (x .plant) ≡ true)
-    → sourceTried (countsOf h) inRange (x .plant) (keyOf (x .label)) (t .slo) (t .shi) ≡ accepted tt → Kept (withSource h x) (sourceAdded t (h .nsources) x)
+    → sourceTried (countsOf h) inRange (x .plant) (spellingOf (x .label)) (t .slo) (t .shi) ≡ accepted tt → Kept (withSource h x) (sourceAdded t (h .nsources) x)
 kept-source h t k inRange x p w e =
-    let s = source-let (countsOf h) inRange (x .plant) (keyOf (x .label)) (t .slo) (t .shi) e in
+    let s = source-let (countsOf h) inRange (x .plant) (spellingOf (x .label)) (t .slo) (t .shi) e in
     let n = h .nsources in
     let room : n < 32 = s .room in
     let size = k .sources-size in
@@ -215,7 +215,7 @@ kept-source h t k inRange x p w e =
       high-size = simp length-set (k .high-size);
       based-size = k .based-size;
       percents-size = k .percents-size;
-      sources = keyed-more (λ i. sourceAt h i .label) (λ i. sourceAt (withSource h x) i .label) n (t .slo) (t .shi) (x .label) room (k .sources)
+      sources = spelled-more (λ i. sourceAt h i .label) (λ i. sourceAt (withSource h x) i .label) n (t .slo) (t .shi) (x .label) room (k .sources)
           (λ i l. ap (λ (y : Source). y .label) (other i l)) (ap (λ (y : Source). y .label) same) (s .unused) p;
       deliveries = k .deliveries;
       high = rw (add-one n)
@@ -233,17 +233,17 @@ deliveryAdded t n x =
     record {
       slo = t .slo;
       shi = t .shi;
-      tlo = set (t .tlo) n (keyOf (x .label) .lo);
-      thi = set (t .thi) n (keyOf (x .label) .hi);
+      tlo = set (t .tlo) n (spellingOf (x .label) .lo);
+      thi = set (t .thi) n (spellingOf (x .label) .hi);
       high = t .high;
       based = t .based;
       percents = t .percents;
     }
 
 pub kept-delivery : (h : Hour) (t : Tables) → Kept h t → (inRange : Bool) (x : Delivery) → Labelled (x .label)
-    → deliveryTried (countsOf h) inRange (keyOf (x .label)) (t .tlo) (t .thi) ≡ accepted tt → Kept (withDelivery h x) (deliveryAdded t (h .ndeliveries) x)
+    → deliveryTried (countsOf h) inRange (spellingOf (x .label)) (t .tlo) (t .thi) ≡ accepted tt → Kept (withDelivery h x) (deliveryAdded t (h .ndeliveries) x)
 kept-delivery h t k inRange x p e =
-    let s = delivery-let (countsOf h) inRange (keyOf (x .label)) (t .tlo) (t .thi) e in
+    let s = delivery-let (countsOf h) inRange (spellingOf (x .label)) (t .tlo) (t .thi) e in
     let n = h .ndeliveries in
     let room : n < 32 = s .room in
     let size = k .deliveries-size in
@@ -256,7 +256,7 @@ kept-delivery h t k inRange x p e =
       based-size = k .based-size;
       percents-size = k .percents-size;
       sources = k .sources;
-      deliveries = keyed-more (λ i. deliveryAt h i .label) (λ i. deliveryAt (withDelivery h x) i .label) n (t .tlo) (t .thi) (x .label) room (k .deliveries)
+      deliveries = spelled-more (λ i. deliveryAt h i .label) (λ i. deliveryAt (withDelivery h x) i .label) n (t .tlo) (t .thi) (x .label) room (k .deliveries)
           (λ i l. ap (λ (y : Delivery). y .label) (getD-set-other (h .deliveries) n i x noDelivery (λ e. omega arith)))
           (ap (λ (y : Delivery). y .label) (getD-set-same (h .deliveries) n x noDelivery (omega arith))) (s .unused) p;
       high = k .high;

@@ -28,7 +28,7 @@ use Rattle.rules.specs.declared.Verdict.the-variants.{Accepted, Refused}
 use Rattle.laws.specs.Choices.{true-not-false, false-not-true}
 use Rattle.laws.specs.Sums.{sumTo-none, sumTo-more, sumTo-same}
 use Rattle.roundtrip.specs.FirstUnplaced.{placer}
-use Rattle.line_rules.specs.Keys.{spotOf}
+use Rattle.line_rules.specs.Spellings.{spotOf}
 use Rattle.line_rules.specs.Tried.{countsOf, isFound, aboveOne, generatedTo, deliveredTo}
 use Rattle.line_rules.specs.Finds.{found-any}
 use Rattle.line_rules.specs.Answers.{finished-overdrawn, finished-none, finished-placed, finished-unplaced}

@@ -19,8 +19,8 @@ use Rattle.rules.specs.declared.Direct.{Direct}
 use Rattle.rules.specs.declared.Hour.{Hour}
 use Rattle.rules.specs.declared.Refusal.{Refusal}
 use Rattle.rules.specs.declared.Refusal.the-variants.{Form, Range, Full, Used, Levels, Names, OtherBasis, Percents}
-use Rattle.line_rules.specs.Keys.{keyFound}
-use Rattle.line_rules.specs.declared.Key.{Key}
+use Rattle.line_rules.specs.Spellings.{spellingFound}
+use Rattle.line_rules.specs.declared.Spelling.{Spelling}
 use Rattle.line_rules.specs.declared.Counts.{Counts}
 use Rattle.line_rules.specs.declared.Spot.{Spot}
 use Rattle.line_rules.specs.declared.Spot.the-variants.{At, Nowhere}
@@ -57,28 +57,28 @@ isFound Nowhere = false
 isFound (At i) = true
 
 -- 3 to 5, of a line whose class has n entries
-unfoldable pub labelTried : ℕ → Bool → ℕ → Key → List ℕ → List ℕ → Outcome (Unit {0})
-labelTried line inRange n key lo hi =
+unfoldable pub labelTried : ℕ → Bool → ℕ → Spelling → List ℕ → List ℕ → Outcome (Unit {0})
+labelTried line inRange n spelling lo hi =
     refuse (not inRange) (Range line)
     (refuse (leb 32 n) (Full line)
-    (refuse (isFound (keyFound lo hi n key)) (Used line)
+    (refuse (isFound (spellingFound lo hi n spelling)) (Used line)
     (accepted tt)))
 
-unfoldable pub sourceTried : Counts → Bool → Plant → Key → List ℕ → List ℕ → Outcome (Unit {0})
-sourceTried n inRange plant key lo hi =
+unfoldable pub sourceTried : Counts → Bool → Plant → Spelling → List ℕ → List ℕ → Outcome (Unit {0})
+sourceTried n inRange plant spelling lo hi =
     refuse (not (eqb (n .deliveries + n .directs) 0)) (Form (nextLine n))
-    (andThen (labelTried (nextLine n) inRange (n .sources) key lo hi) λ u.
+    (andThen (labelTried (nextLine n) inRange (n .sources) spelling lo hi) λ u.
     refuse (not (levelled plant)) (Levels (nextLine n))
     (accepted tt))
 
-unfoldable pub deliveryTried : Counts → Bool → Key → List ℕ → List ℕ → Outcome (Unit {0})
-deliveryTried n inRange key lo hi =
+unfoldable pub deliveryTried : Counts → Bool → Spelling → List ℕ → List ℕ → Outcome (Unit {0})
+deliveryTried n inRange spelling lo hi =
     refuse (not (eqb (n .directs) 0)) (Form (nextLine n))
-    (labelTried (nextLine n) inRange (n .deliveries) key lo hi)
+    (labelTried (nextLine n) inRange (n .deliveries) spelling lo hi)
 
 -- D lines.
 
--- the keys of the sources and of the deliveries, and for each source its high (0 for one that is no unit), the code of its basis and its percents so far
+-- the spellings of the sources and of the deliveries, and for each source its high (0 for one that is no unit), the code of its basis and its percents so far
 pub record Tables : Type 0 where
   pub slo : List ℕ
   pub shi : List ℕ
@@ -115,9 +115,9 @@ onSpot (At i) after = after i
 
 unfoldable pub pairFound : Counts → DirectLine → List ℕ → List ℕ → List ℕ → List ℕ → List ℕ → Pair
 pairFound n x slo shi tlo thi high =
-    onSpot (keyFound slo shi (n .sources) (x .unit)) λ i.
+    onSpot (spellingFound slo shi (n .sources) (x .unit)) λ i.
     if eqb (getD high i 0) 0 then Missing else
-    onSpot (keyFound tlo thi (n .deliveries) (x .delivery)) λ j.
+    onSpot (spellingFound tlo thi (n .deliveries) (x .delivery)) λ j.
     Both i j
 
 abbrev pub onPair : {A : Type 0} → Pair → Refusal → (ℕ → ℕ → Outcome A) → Outcome A

@@ -26,13 +26,13 @@ use Rattle.rules.specs.declared.Refusal.{Refusal}
 use Rattle.rules.specs.declared.Refusal.the-variants.{Range, Full, Used, Names, OtherBasis, Percents}
 use Rattle.laws.specs.Choices.{false-not-true}
 use Rattle.laws.specs.Lists.{findTo-passes}
-use Rattle.line_rules.specs.Keys.{keyOf, spotOf, keyTo, keyFound}
+use Rattle.line_rules.specs.Spellings.{spellingOf, spotOf, spellingTo, spellingFound}
 use Rattle.line_rules.specs.Tried as tried
 use Rattle.line_rules.specs.Tried.{countsOf, isFound, labelTried, sourceTried, deliveryTried, Tables, belowMost, codeLeaves, onSpot, onPair, directTried}
 use Rattle.line_rules.specs.Finds.{kept}
-use Rattle.line_rules.specs.KeyTells.{Labelled}
-use Rattle.line_rules.specs.Kept.{keyed-found, keyed-used, keyed-both, High, Kept}
-use Rattle.line_rules.specs.declared.Key.{Key}
+use Rattle.line_rules.specs.SpellingTells.{Labelled}
+use Rattle.line_rules.specs.Kept.{spelled-found, spelled-used, spelled-both, High, Kept}
+use Rattle.line_rules.specs.declared.Spelling.{Spelling}
 use Rattle.line_rules.specs.declared.DirectLine.{DirectLine}
 use Rattle.line_rules.specs.declared.Pair.{Pair}
 use Rattle.line_rules.specs.declared.Pair.the-variants.{Both, Missing}
@@ -48,32 +48,32 @@ then-then (accepted u) y after = refl
 then-then (refused r) y after = refl
 
 -- 3 to 5
-label-past : {B : Type 0} (line : ℕ) (inRange : Bool) (n : ℕ) (key : Key) (lo hi : List ℕ) (used : Bool) (x : Outcome B) → used ≡ isFound (keyFound lo hi n key)
-    → refuse (not inRange) (Range line) (refuse (leb 32 n) (Full line) (refuse used (Used line) x)) ≡ andThen (labelTried line inRange n key lo hi) (λ u. x)
+label-past : {B : Type 0} (line : ℕ) (inRange : Bool) (n : ℕ) (spelling : Spelling) (lo hi : List ℕ) (used : Bool) (x : Outcome B) → used ≡ isFound (spellingFound lo hi n spelling)
+    → refuse (not inRange) (Range line) (refuse (leb 32 n) (Full line) (refuse used (Used line) x)) ≡ andThen (labelTried line inRange n spelling lo hi) (λ u. x)
 unfolding tried.labelTried
-label-past line inRange n key lo hi used x e =
+label-past line inRange n spelling lo hi used x e =
     past (not inRange) _ _ _ _ _ refl (past (leb 32 n) _ _ _ _ _ refl (past used _ _ _ (accepted tt) (λ u. x) e refl))
 
 module _ (h : Hour) (t : Tables) (k : Kept h t) where
   -- Source and T lines.
 
   pub source-tried : (inRange : Bool) (x : Source) (plant : Plant) → Labelled (x .label) → (inRange ≡ true → plant ≡ x .plant)
-      → sourceTaken h inRange x ≡ andThen (sourceTried (countsOf h) inRange plant (keyOf (x .label)) (t .slo) (t .shi)) (λ u. accepted (withSource h x))
+      → sourceTaken h inRange x ≡ andThen (sourceTried (countsOf h) inRange plant (spellingOf (x .label)) (t .slo) (t .shi)) (λ u. accepted (withSource h x))
   unfolding tried.sourceTried tried.labelTried
   source-tried false x plant p q = past (not (eqb (h .ndeliveries + h .ndirects) 0)) _ _ _ (refused (Range (lineNumber h))) _ refl refl
   source-tried true x plant p q =
       past (not (eqb (h .ndeliveries + h .ndirects) 0)) _ _ _ _ _ refl
-      (label-past (lineNumber h) true (h .nsources) (keyOf (x .label)) (t .slo) (t .shi) _ _ (keyed-used _ _ (t .slo) (t .shi) (k .sources) (x .label) p)
-      ∙ ap (λ (y : Outcome Hour). andThen (labelTried (lineNumber h) true (h .nsources) (keyOf (x .label)) (t .slo) (t .shi)) (λ u. y))
+      (label-past (lineNumber h) true (h .nsources) (spellingOf (x .label)) (t .slo) (t .shi) _ _ (spelled-used _ _ (t .slo) (t .shi) (k .sources) (x .label) p)
+      ∙ ap (λ (y : Outcome Hour). andThen (labelTried (lineNumber h) true (h .nsources) (spellingOf (x .label)) (t .slo) (t .shi)) (λ u. y))
       (past (not (levelled (x .plant))) (not (levelled plant)) _ _ (accepted tt) (λ u. accepted (withSource h x)) (ap (λ (p : Plant). not (levelled p)) (sym (q refl))) refl)
-      ∙ sym (then-then (labelTried (lineNumber h) true (h .nsources) (keyOf (x .label)) (t .slo) (t .shi)) _ (λ u. accepted (withSource h x))))
+      ∙ sym (then-then (labelTried (lineNumber h) true (h .nsources) (spellingOf (x .label)) (t .slo) (t .shi)) _ (λ u. accepted (withSource h x))))
 
   pub delivery-tried : (inRange : Bool) (x : Delivery) → Labelled (x .label)
-      → deliveryTaken h inRange x ≡ andThen (deliveryTried (countsOf h) inRange (keyOf (x .label)) (t .tlo) (t .thi)) (λ u. accepted (withDelivery h x))
+      → deliveryTaken h inRange x ≡ andThen (deliveryTried (countsOf h) inRange (spellingOf (x .label)) (t .tlo) (t .thi)) (λ u. accepted (withDelivery h x))
   unfolding tried.deliveryTried
   delivery-tried inRange x p =
       past (not (eqb (h .ndirects) 0)) _ _ _ _ _ refl
-      (label-past (lineNumber h) inRange (h .ndeliveries) (keyOf (x .label)) (t .tlo) (t .thi) _ _ (keyed-used _ _ (t .tlo) (t .thi) (k .deliveries) (x .label) p))
+      (label-past (lineNumber h) inRange (h .ndeliveries) (spellingOf (x .label)) (t .tlo) (t .thi) _ _ (spelled-used _ _ (t .tlo) (t .thi) (k .deliveries) (x .label) p))
 
   -- D lines.
 
@@ -125,15 +125,15 @@ module _ (h : Hour) (t : Tables) (k : Kept h t) where
       go false z = rw (e, unit, z) (f i (l i refl) (unit ∙ ap not z))
 
   pub direct-tried : (inRange : Bool) (b : Basis) (percent : ℕ) (unit delivery : Label) (x : DirectLine) → Labelled unit → Labelled delivery
-      → x .unit ≡ keyOf unit → x .delivery ≡ keyOf delivery → (inRange ≡ true → (x .basis ≡ b) × (x .percent ≡ percent))
+      → x .unit ≡ spellingOf unit → x .delivery ≡ spellingOf delivery → (inRange ≡ true → (x .basis ≡ b) × (x .percent ≡ percent))
       → directTaken h inRange b percent unit delivery ≡ andThen (directTried (countsOf h) inRange x t) (λ y. accepted (withDirect h y))
   unfolding tried.directTried tried.pairFound
   direct-tried false b percent unit delivery x p q ue de s = refl
   direct-tried true b percent unit delivery x p q ue de s =
       rw (ue, de, s refl .0, s refl .1)
       (past (leb 32 (h .ndirects)) _ _ _ _ _ refl
-      (unit-named _ (keyTo (t .slo) (t .shi) (keyOf unit) (h .nsources)) (keyed-both _ _ (t .slo) (t .shi) (k .sources) unit p (λ i. isUnit (sourceAt h i .plant)))
+      (unit-named _ (spellingTo (t .slo) (t .shi) (spellingOf unit) (h .nsources)) (spelled-both _ _ (t .slo) (t .shi) (k .sources) unit p (λ i. isUnit (sourceAt h i .plant)))
       (λ i e. findTo-passes _ (h .nsources) i e .0) _ _ _
       (λ i l u.
-      delivery-named i _ (keyTo (t .tlo) (t .thi) (keyOf delivery) (h .ndeliveries)) (keyed-found _ _ (t .tlo) (t .thi) (k .deliveries) delivery q) _ _
+      delivery-named i _ (spellingTo (t .tlo) (t .thi) (spellingOf delivery) (h .ndeliveries)) (spelled-found _ _ (t .tlo) (t .thi) (k .deliveries) delivery q) _ _
       (λ j. share-tried b percent i j l u))))

@@ -1,5 +1,5 @@
 // Document 01's rules 2 to 9 tried in their order on one more line of a growing hour, and 10 and 11 at its end.
-// Contracts cite rules' Reading, and of this crate Keys (labels as numbers), Tried (2 to 9 on tables kept beside the hour) and Totalled (10 and 11 on totals kept beside it). Internal: the deck's crates and the test of 15 call it.
+// Contracts cite rules' Reading, and of this crate Spellings (labels as numbers), Tried (2 to 9 on tables kept beside the hour) and Totalled (10 and 11 on totals kept beside it). Internal: the deck's crates and the test of 15 call it.
 ghost use mathlib.Core.Path.{_≡_};
 ghost use mathlib.Core.Bool.{not, _&&_};
 ghost use Prim.Native.Nat.{_+_, _≤_, _<_};
@@ -8,7 +8,7 @@ ghost use lib.ListN.{getD, set};
 ghost use Rattle.rules.specs.Answers.{verdictOf};
 ghost use Rattle.rules.specs.Units.{generation, ordered, levelled};
 ghost use Rattle.rules.specs.Reading.{generated, delivered};
-ghost use Rattle.line_rules.specs.Keys.{halfOf, keyOf, sameKey, keyFound};
+ghost use Rattle.line_rules.specs.Spellings.{halfOf, spellingOf, sameSpelling, spellingFound};
 ghost use Rattle.line_rules.specs.Tried.{entryOf, Few, nextLine, labelTried, sourceTried, deliveryTried, unitHigh, basisCode, codeLeaves, belowMost, pairFound, directTried, aboveOne, aboveAll, generatedTo, deliveredTo};
 ghost use Rattle.line_rules.specs.Totalled.{sourceTotalled, deliveryTotalled, finishedBy};
 use rules::Basis;
@@ -42,7 +42,7 @@ pub enum Pair {
 }
 
 // The sixteen bytes of a label as two numbers.
-pub struct Key {
+pub struct Spelling {
     pub lo: u64,
     pub hi: u64,
 }
@@ -57,8 +57,8 @@ pub struct Counts {
 pub struct DirectLine {
     pub basis: Basis,
     pub percent: u32,
-    pub unit: Key,
-    pub delivery: Key,
+    pub unit: Spelling,
+    pub delivery: Spelling,
 }
 
 // What 10 and 11 ask of the entries so far: the sums of what they generate and take, and whether a delivery has a number of its own.
@@ -94,13 +94,13 @@ fn half_of(bytes: [u8; 16], from: usize) -> u64
     half
 }
 
-pub fn key_of(l: Label) -> Key
-    ensures { λ r. ⌜ r ≡ keyOf l ⌝ }
+pub fn spelling_of(l: Label) -> Spelling
+    ensures { λ r. ⌜ r ≡ spellingOf l ⌝ }
 {
     let b = l.bytes;
     let lo = half_of(b, 0);
     let hi = half_of(b, 8);
-    Key { lo, hi }
+    Spelling { lo, hi }
 }
 
 fn same_half(a: u64, b: u64) -> bool
@@ -109,8 +109,8 @@ fn same_half(a: u64, b: u64) -> bool
     a == b
 }
 
-fn same_key(a: Key, b: Key) -> bool
-    ensures { λ r. ⌜ r ≡ sameKey a b ⌝ }
+fn same_spelling(a: Spelling, b: Spelling) -> bool
+    ensures { λ r. ⌜ r ≡ sameSpelling a b ⌝ }
 {
     if !same_half(a.lo, b.lo) {
         return false;
@@ -118,18 +118,18 @@ fn same_key(a: Key, b: Key) -> bool
     same_half(a.hi, b.hi)
 }
 
-// The first of n places of the tables where a key stands.
-pub fn find_key(lo: &[u64; 32], hi: &[u64; 32], n: usize, k: Key) -> Spot
+// The first of n places of the tables where a spelling stands.
+pub fn find_spelling(lo: &[u64; 32], hi: &[u64; 32], n: usize, k: Spelling) -> Spot
     requires { ⌜ n ≤ 32 ⌝ }
-    ensures { λ r. ⌜ r ≡ keyFound (now (lo .entry)) (now (hi .entry)) n k ⌝ }
+    ensures { λ r. ⌜ r ≡ spellingFound (now (lo .entry)) (now (hi .entry)) n k ⌝ }
 {
     let mut i: usize = 0;
     while i < n {
-        let here = Key {
+        let here = Spelling {
             lo: lo[i],
             hi: hi[i],
         };
-        if same_key(here, k) {
+        if same_spelling(here, k) {
             return Spot::At(i);
         }
         i += 1;
@@ -178,12 +178,12 @@ fn take_label(
     line: usize,
     ranged: bool,
     n: usize,
-    key: Key,
+    spelling: Spelling,
     lo: &[u64; 32],
     hi: &[u64; 32],
 ) -> Verdict
     requires { ⌜ n ≤ 32 ⌝ }
-    ensures { λ r. ⌜ r ≡ verdictOf (labelTried line ranged n key (now (lo .entry)) (now (hi .entry))) ⌝ }
+    ensures { λ r. ⌜ r ≡ verdictOf (labelTried line ranged n spelling (now (lo .entry)) (now (hi .entry))) ⌝ }
 {
     if !ranged {
         return Verdict::Refused(Refusal::Range(line));
@@ -191,7 +191,7 @@ fn take_label(
     if 32 <= n {
         return Verdict::Refused(Refusal::Full(line));
     }
-    if let Spot::At(i) = find_key(lo, hi, n, key) {
+    if let Spot::At(i) = find_spelling(lo, hi, n, spelling) {
         return Verdict::Refused(Refusal::Used(line));
     }
     Verdict::Accepted
@@ -202,18 +202,18 @@ pub fn take_source(
     n: Counts,
     ranged: bool,
     plant: Plant,
-    key: Key,
+    spelling: Spelling,
     lo: &[u64; 32],
     hi: &[u64; 32],
 ) -> Verdict
     requires { ⌜ Few n ⌝ }
-    ensures { λ r. ⌜ r ≡ verdictOf (sourceTried n ranged plant key (now (lo .entry)) (now (hi .entry))) ⌝ }
+    ensures { λ r. ⌜ r ≡ verdictOf (sourceTried n ranged plant spelling (now (lo .entry)) (now (hi .entry))) ⌝ }
 {
     let line = next_line(n);
     if n.deliveries + n.directs != 0 {
         return Verdict::Refused(Refusal::Form(line));
     }
-    if let Verdict::Refused(r) = take_label(line, ranged, n.sources, key, lo, hi) {
+    if let Verdict::Refused(r) = take_label(line, ranged, n.sources, spelling, lo, hi) {
         return Verdict::Refused(r);
     }
     if !in_levels(plant) {
@@ -223,15 +223,21 @@ pub fn take_source(
 }
 
 // A T line: 2 to 5.
-pub fn take_delivery(n: Counts, ranged: bool, key: Key, lo: &[u64; 32], hi: &[u64; 32]) -> Verdict
+pub fn take_delivery(
+    n: Counts,
+    ranged: bool,
+    spelling: Spelling,
+    lo: &[u64; 32],
+    hi: &[u64; 32],
+) -> Verdict
     requires { ⌜ Few n ⌝ }
-    ensures { λ r. ⌜ r ≡ verdictOf (deliveryTried n ranged key (now (lo .entry)) (now (hi .entry))) ⌝ }
+    ensures { λ r. ⌜ r ≡ verdictOf (deliveryTried n ranged spelling (now (lo .entry)) (now (hi .entry))) ⌝ }
 {
     let line = next_line(n);
     if n.directs != 0 {
         return Verdict::Refused(Refusal::Form(line));
     }
-    take_label(line, ranged, n.deliveries, key, lo, hi)
+    take_label(line, ranged, n.deliveries, spelling, lo, hi)
 }
 
 // A unit's high; 0 for a source that is no unit.
@@ -286,7 +292,7 @@ pub fn basis_allowed(b: Basis, code: u64, most: u32) -> bool
 
 // The tables after one entry more.
 
-pub fn keep_key(i: usize, k: Key, lo: &mut [u64; 32], hi: &mut [u64; 32])
+pub fn keep_spelling(i: usize, k: Spelling, lo: &mut [u64; 32], hi: &mut [u64; 32])
     requires { ⌜ i < 32 ⌝ }
     ensures lo { λ _. ⌜ now (lo .exit) ≡ set (now (lo .entry)) i (k .lo) ⌝ }
     ensures hi { λ _. ⌜ now (hi .exit) ≡ set (now (hi .entry)) i (k .hi) ⌝ }
@@ -319,13 +325,13 @@ fn find_pair(
     requires { ⌜ Few n ⌝ }
     ensures { λ r. ⌜ r ≡ pairFound n x (now (slo .entry)) (now (shi .entry)) (now (tlo .entry)) (now (thi .entry)) (now (high .entry)) ⌝ }
 {
-    let Spot::At(i) = find_key(slo, shi, n.sources, x.unit) else {
+    let Spot::At(i) = find_spelling(slo, shi, n.sources, x.unit) else {
         return Pair::Missing;
     };
     if high[i] == 0 {
         return Pair::Missing;
     }
-    let Spot::At(j) = find_key(tlo, thi, n.deliveries, x.delivery) else {
+    let Spot::At(j) = find_spelling(tlo, thi, n.deliveries, x.delivery) else {
         return Pair::Missing;
     };
     Pair::Both(i, j)

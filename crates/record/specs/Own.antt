@@ -20,9 +20,9 @@ use Rattle.rules.specs.declared.Verdict.{Verdict}
 use Rattle.rules.specs.declared.Verdict.the-variants.{Accepted, Refused}
 use Rattle.record.specs.Shape.{ownLabel, sourceBlank, deliveryBlank, directBlank}
 use Rattle.ranges.specs.Inside.{plantInside, deliveryInside, directInside, lossesInside}
-use Rattle.line_rules.specs.Keys.{keyOf}
+use Rattle.line_rules.specs.Spellings.{spellingOf}
 use Rattle.line_rules.specs.Tried.{countsOf, sourceTried, deliveryTried, Tables, unitHigh, basisCode, belowMost, codeLeaves}
-use Rattle.line_rules.specs.declared.Key.{Key}
+use Rattle.line_rules.specs.declared.Spelling.{Spelling}
 use Rattle.line_rules.specs.declared.Counts.{Counts}
 
 abbrev pub accepts : Verdict → Bool
@@ -36,29 +36,29 @@ unfoldable pub fillTo : {A : Type 0} → (ℕ → A) → List A → ℕ → List
 fillTo f xs zero = xs
 fillTo f xs (suc n) = set (fillTo f xs n) n (f n)
 
-abbrev pub sourceKey : List Source → ℕ → Key
-sourceKey sources i = keyOf (getD sources i noSource .label)
+abbrev pub sourceSpelling : List Source → ℕ → Spelling
+sourceSpelling sources i = spellingOf (getD sources i noSource .label)
 
-abbrev pub deliveryKey : List Delivery → ℕ → Key
-deliveryKey deliveries i = keyOf (getD deliveries i noDelivery .label)
+abbrev pub deliverySpelling : List Delivery → ℕ → Spelling
+deliverySpelling deliveries i = spellingOf (getD deliveries i noDelivery .label)
 
 abbrev pub zeros : List ℕ
 zeros = replicate 32 0
 
 abbrev pub slosTo : List Source → ℕ → List ℕ
-slosTo sources i = fillTo (λ i. sourceKey sources i .lo) zeros i
+slosTo sources i = fillTo (λ i. sourceSpelling sources i .lo) zeros i
 
 abbrev pub shisTo : List Source → ℕ → List ℕ
-shisTo sources i = fillTo (λ i. sourceKey sources i .hi) zeros i
+shisTo sources i = fillTo (λ i. sourceSpelling sources i .hi) zeros i
 
 abbrev pub highsTo : List Source → ℕ → List ℕ
 highsTo sources i = fillTo (λ i. unitHigh (getD sources i noSource .plant)) zeros i
 
 abbrev pub tlosTo : List Delivery → ℕ → List ℕ
-tlosTo deliveries j = fillTo (λ j. deliveryKey deliveries j .lo) zeros j
+tlosTo deliveries j = fillTo (λ j. deliverySpelling deliveries j .lo) zeros j
 
 abbrev pub thisTo : List Delivery → ℕ → List ℕ
-thisTo deliveries j = fillTo (λ j. deliveryKey deliveries j .hi) zeros j
+thisTo deliveries j = fillTo (λ j. deliverySpelling deliveries j .hi) zeros j
 
 unfoldable pub basedTo : List Direct → ℕ → List ℕ
 basedTo directs zero = zeros
@@ -87,24 +87,24 @@ abbrev pub counts : ℕ → ℕ → ℕ → Counts
 counts i j k = record { sources = i; deliveries = j; directs = k }
 
 -- a source after i others: what the rules say, and its label
-abbrev pub sourceRuled : ℕ → Plant → Key → List ℕ → List ℕ → Bool
-sourceRuled i p key lo hi = accepts (verdictOf (sourceTried (counts i 0 0) (plantInside p) p key lo hi))
+abbrev pub sourceRuled : ℕ → Plant → Spelling → List ℕ → List ℕ → Bool
+sourceRuled i p spelling lo hi = accepts (verdictOf (sourceTried (counts i 0 0) (plantInside p) p spelling lo hi))
 
-unfoldable pub sourceOwn : ℕ → Source → Key → List ℕ → List ℕ → Bool
-sourceOwn i x key lo hi = ownLabel (x .label) && sourceRuled i (x .plant) key lo hi
+unfoldable pub sourceOwn : ℕ → Source → Spelling → List ℕ → List ℕ → Bool
+sourceOwn i x spelling lo hi = ownLabel (x .label) && sourceRuled i (x .plant) spelling lo hi
 
 abbrev pub sourceOwnAt : List Source → ℕ → Bool
-sourceOwnAt sources i = sourceOwn i (getD sources i noSource) (sourceKey sources i) (slosTo sources i) (shisTo sources i)
+sourceOwnAt sources i = sourceOwn i (getD sources i noSource) (sourceSpelling sources i) (slosTo sources i) (shisTo sources i)
 
 -- a delivery after n sources and j others
-abbrev pub deliveryRuled : ℕ → ℕ → Delivery → Key → List ℕ → List ℕ → Bool
-deliveryRuled n j x key lo hi = accepts (verdictOf (deliveryTried (counts n j 0) (deliveryInside (x .sequence .0) (x .kind) (x .block) (x .mwh)) key lo hi))
+abbrev pub deliveryRuled : ℕ → ℕ → Delivery → Spelling → List ℕ → List ℕ → Bool
+deliveryRuled n j x spelling lo hi = accepts (verdictOf (deliveryTried (counts n j 0) (deliveryInside (x .sequence .0) (x .kind) (x .block) (x .mwh)) spelling lo hi))
 
-unfoldable pub deliveryOwn : ℕ → ℕ → Delivery → Key → List ℕ → List ℕ → Bool
-deliveryOwn n j x key lo hi = ownLabel (x .label) && deliveryRuled n j x key lo hi
+unfoldable pub deliveryOwn : ℕ → ℕ → Delivery → Spelling → List ℕ → List ℕ → Bool
+deliveryOwn n j x spelling lo hi = ownLabel (x .label) && deliveryRuled n j x spelling lo hi
 
 abbrev pub deliveryOwnAt : ℕ → List Delivery → ℕ → Bool
-deliveryOwnAt n deliveries j = deliveryOwn n j (getD deliveries j noDelivery) (deliveryKey deliveries j) (tlosTo deliveries j) (thisTo deliveries j)
+deliveryOwnAt n deliveries j = deliveryOwn n j (getD deliveries j noDelivery) (deliverySpelling deliveries j) (tlosTo deliveries j) (thisTo deliveries j)
 
 -- 3, 4 and 7 to 9 of a D entry: what it names, it names by its place
 abbrev pub directRuled : Counts → Direct → List ℕ → List ℕ → List ℕ → Bool

@@ -23,7 +23,7 @@ use Rattle.rules.specs.declared.Delivery.{Delivery}
 use Rattle.rules.specs.declared.Direct.{Direct}
 use Rattle.laws.specs.Choices.{false-not-true, both-true}
 use Rattle.roundtrip.specs.Labels.{label-from}
-use Rattle.line_rules.specs.KeyTells.{Labelled}
+use Rattle.line_rules.specs.SpellingTells.{Labelled}
 use Rattle.record.specs.Shape as shape
 use Rattle.record.specs.Shape.{ownByte, paddedTo, padded, ownLabel, blankLabel, blankPlant, sourceBlank, deliveryBlank, blankBasis, directBlank}
 use Rattle.record.specs.Loops.{allTo-each, allTo-from}

@@ -36,11 +36,11 @@ use Rattle.laws.specs.Choices.{false-not-true, both-true, refused-not-accepted,
 use Rattle.roundtrip.specs.Lines.{lineLabelled}
 use Rattle.ranges.specs.Inside as inside
 use Rattle.ranges.specs.Inside.{plantInside, deliveryInside, directInside}
-use Rattle.line_rules.specs.Keys.{keyOf, keyAt}
+use Rattle.line_rules.specs.Spellings.{spellingOf, spellingAt}
 use Rattle.line_rules.specs.Tried as tried
 use Rattle.line_rules.specs.Tried.{nextLine, sourceTried, deliveryTried, Tables, belowMost, codeLeaves, onPair, directTried}
-use Rattle.line_rules.specs.KeyTells.{Labelled, labelled}
-use Rattle.line_rules.specs.Kept.{keyed-at, Kept}
+use Rattle.line_rules.specs.SpellingTells.{Labelled, labelled}
+use Rattle.line_rules.specs.Kept.{spelled-at, Kept}
 use Rattle.line_rules.specs.Pairs.{pair-at}
 use Rattle.line_rules.specs.TriedIsTaken.{source-tried, delivery-tried, direct-tried}
 use Rattle.line_rules.specs.TablesKept.{kept-started, kept-source, kept-delivery, kept-direct}
@@ -114,7 +114,7 @@ plant-labelled (F g) l = refl
 
 module _ (h : Hour) (i : ℕ) (k : Kept (soFar h i 0 0) (tablesTo h i 0 0)) where
   abbrev source-tried-as : Label → Outcome (Unit {0})
-  source-tried-as l = sourceTried (counts i 0 0) (plantInside (sourceAt h i .plant)) (sourceAt h i .plant) (keyOf l) (slosTo (h .sources) i) (shisTo (h .sources) i)
+  source-tried-as l = sourceTried (counts i 0 0) (plantInside (sourceAt h i .plant)) (sourceAt h i .plant) (spellingOf l) (slosTo (h .sources) i) (shisTo (h .sources) i)
 
   abbrev source-as : Label → Source
   source-as l = record { plant = sourceAt h i .plant; label = l }
@@ -174,7 +174,7 @@ module _ (h : Hour) (j : ℕ) (k : Kept (soFar h (h .nsources) j 0) (tablesTo h 
   inRange = deliveryInside (deliveryAt h j .sequence .0) (deliveryAt h j .kind) (deliveryAt h j .block) (deliveryAt h j .mwh)
 
   abbrev delivery-tried-as : Label → Outcome (Unit {0})
-  delivery-tried-as l = deliveryTried (counts (h .nsources) j 0) inRange (keyOf l) (tlosTo (h .deliveries) j) (thisTo (h .deliveries) j)
+  delivery-tried-as l = deliveryTried (counts (h .nsources) j 0) inRange (spellingOf l) (tlosTo (h .deliveries) j) (thisTo (h .deliveries) j)
 
   abbrev delivery-as : Label → Delivery
   delivery-as l = record { sequence = deliveryAt h j .sequence; kind = deliveryAt h j .kind; block = deliveryAt h j .block; mwh = deliveryAt h j .mwh; label = l }
@@ -265,14 +265,14 @@ module _ (h : Hour) (d : ℕ) (k : Kept (soFar h (h .nsources) (h .ndeliveries) 
   abbrev entry : Direct
   entry = directAt h d
 
-  -- its line, by the keys of the entries that it names
+  -- its line, by the spellings of the entries that it names
   abbrev ownLine : DirectLine
   ownLine =
       record {
         basis = entry .basis;
         percent = entry .percent;
-        unit = keyAt (tables .slo) (tables .shi) (entry .source);
-        delivery = keyAt (tables .tlo) (tables .thi) (entry .delivery);
+        unit = spellingAt (tables .slo) (tables .shi) (entry .source);
+        delivery = spellingAt (tables .tlo) (tables .thi) (entry .delivery);
       }
 
   -- its tests: in its ranges, no unit, its basis, its percents
@@ -313,8 +313,8 @@ module _ (h : Hour) (d : ℕ) (k : Kept (soFar h (h .nsources) (h .ndeliveries) 
         ∙ ap (λ (l : Label). directTaken hour within (entry .basis) (entry .percent) (sourceAt h (entry .source) .label) l) (delivery-labelled-at .padded)
         ∙ direct-tried hour tables k within (entry .basis) (entry .percent) (sourceAt h (entry .source) .label) (deliveryAt h (entry .delivery) .label)
         ownLine unit-labelled delivery-labelled-at
-        (k .sources .key (entry .source) source ∙ ap (λ (x : Source). keyOf (x .label)) unit-same)
-        (k .deliveries .key (entry .delivery) delivery ∙ ap (λ (x : Delivery). keyOf (x .label)) delivery-same)
+        (k .sources .spelling (entry .source) source ∙ ap (λ (x : Source). spellingOf (x .label)) unit-same)
+        (k .deliveries .spelling (entry .delivery) delivery ∙ ap (λ (x : Delivery). spellingOf (x .label)) delivery-same)
         (λ e. (refl, refl))
 
     -- the entries found are those that it names
@@ -323,8 +323,8 @@ module _ (h : Hour) (d : ℕ) (k : Kept (soFar h (h .nsources) (h .ndeliveries) 
     unfolding direct-tried-as tried.directTried
     direct-ruled =
         rw (pair-at counted ownLine (tables .slo) (tables .shi) (tables .tlo) (tables .thi) (tables .high) (entry .source) (entry .delivery)
-        (keyed-at _ _ (tables .slo) (tables .shi) (k .sources) (entry .source) source)
-        (keyed-at _ _ (tables .tlo) (tables .thi) (k .deliveries) (entry .delivery) delivery))
+        (spelled-at _ _ (tables .slo) (tables .shi) (k .sources) (entry .source) source)
+        (spelled-at _ _ (tables .tlo) (tables .thi) (k .deliveries) (entry .delivery) delivery))
         (ap (λ (o : Outcome Direct). refuse (not within) (Range (nextLine counted)) (refuse (leb 32 d) (Full (nextLine counted)) o))
         (pair-if missing (entry .source) (entry .delivery) (Names (nextLine counted)) _))
 

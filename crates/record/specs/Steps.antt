@@ -16,7 +16,7 @@ use Rattle.rules.specs.declared.Direct.{Direct}
 use Rattle.laws.specs.Choices.{both-true}
 use Rattle.ranges.specs.Inside.{directInside}
 use Rattle.line_rules.specs.Tried.{Few, basisCode, codeLeaves, belowMost}
-use Rattle.line_rules.specs.declared.Key.{Key}
+use Rattle.line_rules.specs.declared.Spelling.{Spelling}
 use Rattle.line_rules.specs.declared.Counts.{Counts}
 use Rattle.record.specs.Shape.{ownLabel}
 use Rattle.record.specs.Own as own
@@ -24,25 +24,25 @@ use Rattle.record.specs.Own.{basedTo, percentsTo, sourceRuled, sourceOwn
 
 -- Sources and deliveries.
 
-module _ (i : ℕ) (x : Source) (key : Key) (lo hi : List ℕ) where
-  pub source-unlabelled : ownLabel (x .label) ≡ false → sourceOwn i x key lo hi ≡ false
+module _ (i : ℕ) (x : Source) (spelling : Spelling) (lo hi : List ℕ) where
+  pub source-unlabelled : ownLabel (x .label) ≡ false → sourceOwn i x spelling lo hi ≡ false
   unfolding own.sourceOwn
   source-unlabelled e = rw e
 
-  pub source-labelled : (r : Bool) (key′ : Key) (lo′ hi′ : List ℕ) → ownLabel (x .label) ≡ true → key′ ≡ key → lo′ ≡ lo → hi′ ≡ hi → r ≡ sourceRuled i (x .plant) key′ lo′ hi′
-      → sourceOwn i x key lo hi ≡ r
+  pub source-labelled : (r : Bool) (spelling′ : Spelling) (lo′ hi′ : List ℕ) → ownLabel (x .label) ≡ true → spelling′ ≡ spelling → lo′ ≡ lo → hi′ ≡ hi → r ≡ sourceRuled i (x .plant) spelling′ lo′ hi′
+      → sourceOwn i x spelling lo hi ≡ r
   unfolding own.sourceOwn
-  source-labelled r key′ lo′ hi′ e k l h q = rw (e, ← k, ← l, ← h) (sym q)
+  source-labelled r spelling′ lo′ hi′ e k l h q = rw (e, ← k, ← l, ← h) (sym q)
 
-module _ (n j : ℕ) (x : Delivery) (key : Key) (lo hi : List ℕ) where
-  pub delivery-unlabelled : ownLabel (x .label) ≡ false → deliveryOwn n j x key lo hi ≡ false
+module _ (n j : ℕ) (x : Delivery) (spelling : Spelling) (lo hi : List ℕ) where
+  pub delivery-unlabelled : ownLabel (x .label) ≡ false → deliveryOwn n j x spelling lo hi ≡ false
   unfolding own.deliveryOwn
   delivery-unlabelled e = rw e
 
-  pub delivery-labelled : (r : Bool) (key′ : Key) (lo′ hi′ : List ℕ) → ownLabel (x .label) ≡ true → key′ ≡ key → lo′ ≡ lo → hi′ ≡ hi → r ≡ deliveryRuled n j x key′ lo′ hi′
-      → deliveryOwn n j x key lo hi ≡ r
+  pub delivery-labelled : (r : Bool) (spelling′ : Spelling) (lo′ hi′ : List ℕ) → ownLabel (x .label) ≡ true → spelling′ ≡ spelling → lo′ ≡ lo → hi′ ≡ hi → r ≡ deliveryRuled n j x spelling′ lo′ hi′
+      → deliveryOwn n j x spelling lo hi ≡ r
   unfolding own.deliveryOwn
-  delivery-labelled r key′ lo′ hi′ e k l h q = rw (e, ← k, ← l, ← h) (sym q)
+  delivery-labelled r spelling′ lo′ hi′ e k l h q = rw (e, ← k, ← l, ← h) (sym q)
 
 -- D entries.
 

@@ -8,7 +8,7 @@ ghost use Rattle.rules.specs.Writing as writing;
 ghost use Rattle.line_rules.specs.Tried.{Few};
 ghost use Rattle.record.specs.Own.{sourceRuled, deliveryRuled, directOwn, fewEntries};
 use line_rules::Counts;
-use line_rules::Key;
+use line_rules::Spelling;
 use line_rules::Totals;
 use rules::Delivery;
 use rules::Direct;
@@ -17,26 +17,39 @@ use rules::Plant;
 use rules::Verdict;
 
 // A source with a label, after i others.
-fn source_given(i: usize, p: Plant, key: Key, lo: &[u64; 32], hi: &[u64; 32]) -> bool
+fn source_given(i: usize, p: Plant, spelling: Spelling, lo: &[u64; 32], hi: &[u64; 32]) -> bool
     requires { ⌜ i ≤ 32 ⌝ }
-    ensures { λ r. ⌜ r ≡ sourceRuled i p key (now (lo .entry)) (now (hi .entry)) ⌝ }
+    ensures { λ r. ⌜ r ≡ sourceRuled i p spelling (now (lo .entry)) (now (hi .entry)) ⌝ }
 {
     let n = Counts {
         sources: i,
         deliveries: 0,
         directs: 0,
     };
-    let Verdict::Accepted = line_rules::take_source(n, ranges::plant_in_range(p), p, key, lo, hi)
-    else {
+    let Verdict::Accepted = line_rules::take_source(
+        n,
+        ranges::plant_in_range(p),
+        p,
+        spelling,
+        lo,
+        hi,
+    ) else {
         return false;
     };
     true
 }
 
 // A delivery with a label, after n sources and j others.
-fn delivery_given(n: usize, j: usize, x: Delivery, key: Key, lo: &[u64; 32], hi: &[u64; 32]) -> bool
+fn delivery_given(
+    n: usize,
+    j: usize,
+    x: Delivery,
+    spelling: Spelling,
+    lo: &[u64; 32],
+    hi: &[u64; 32],
+) -> bool
     requires { ⌜ (n ≤ 32) × (j ≤ 32) ⌝ }
-    ensures { λ r. ⌜ r ≡ deliveryRuled n j x key (now (lo .entry)) (now (hi .entry)) ⌝ }
+    ensures { λ r. ⌜ r ≡ deliveryRuled n j x spelling (now (lo .entry)) (now (hi .entry)) ⌝ }
 {
     let s = x.sequence;
     let ranged = ranges::delivery_in_range(s.0, x.kind, x.block, x.mwh);
@@ -45,7 +58,7 @@ fn delivery_given(n: usize, j: usize, x: Delivery, key: Key, lo: &[u64; 32], hi:
         deliveries: j,
         directs: 0,
     };
-    let Verdict::Accepted = line_rules::take_delivery(c, ranged, key, lo, hi) else {
+    let Verdict::Accepted = line_rules::take_delivery(c, ranged, spelling, lo, hi) else {
         return false;
     };
     true
@@ -128,12 +141,12 @@ pub fn valid(h: Hour) -> bool
         if !shape::is_label(l) {
             return false;
         }
-        let k = line_rules::key_of(l);
+        let k = line_rules::spelling_of(l);
         let p = x.plant;
         if !source_given(i, p, k, &slo, &shi) {
             return false;
         }
-        line_rules::keep_key(i, k, &mut slo, &mut shi);
+        line_rules::keep_spelling(i, k, &mut slo, &mut shi);
         high[i] = line_rules::unit_high(p);
         totals = line_rules::add_source(totals, p);
         i += 1;
@@ -147,11 +160,11 @@ pub fn valid(h: Hour) -> bool
         if !shape::is_label(l) {
             return false;
         }
-        let k = line_rules::key_of(l);
+        let k = line_rules::spelling_of(l);
         if !delivery_given(n.sources, j, x, k, &tlo, &thi) {
             return false;
         }
-        line_rules::keep_key(j, k, &mut tlo, &mut thi);
+        line_rules::keep_spelling(j, k, &mut tlo, &mut thi);
         totals = line_rules::add_delivery(totals, x);
         j += 1;
     }

@@ -160,8 +160,8 @@ returns-2 c =
 enum-told : tie.Need-enum-told Inv-loop μ-loop
 enum-told c = search needs
 
-keep-key-requires : tie.Need-keep-key-requires Inv-loop μ-loop
-keep-key-requires c κs =
+keep-spelling-requires : tie.Need-keep-spelling-requires Inv-loop μ-loop
+keep-spelling-requires c κs =
     let taken = c .before .before .before in
     let at-loop = taken .before .before .before .before .before .before .before .before .before in
     omega (arith, delivery-room taken .0, ap (λ (n : Counts). n .deliveries) (at-loop .loop .inv .counts))
@@ -187,12 +187,12 @@ loop-less-2 c =
 loop-again-2 : tie.Need-loop-again-2 Inv-loop μ-loop
 loop-again-2 c =
     let summed = c .before in
-    let keyed = summed .before .before in
-    let taken = keyed .before .before .before .before in
+    let spelled = summed .before .before in
+    let taken = spelled .before .before .before .before in
     let tried = taken .before .before in
     let at-loop = tried .before .before .before .before .before .before .before in
     let start = at-loop .before .before in
-    checks-delivery (text at-loop) (outcome at-loop) (start .args .losses) (at-loop .loop .n) (tables at-loop) (at-loop .loop .totals) (at-loop .loop .at) (at-loop .loop .inv) _ (delivery-turn tried) (taken .enum-told .given .1) _ _ _ (keyed .keep-key .ensures .0) (keyed .keep-key .ensures .1) (summed .add-delivery .ensures .0) (summed .add-delivery .ensures .1)
+    checks-delivery (text at-loop) (outcome at-loop) (start .args .losses) (at-loop .loop .n) (tables at-loop) (at-loop .loop .totals) (at-loop .loop .at) (at-loop .loop .inv) _ (delivery-turn tried) (taken .enum-told .given .1) _ _ _ (spelled .keep-spelling .ensures .0) (spelled .keep-spelling .ensures .1) (summed .add-delivery .ensures .0) (summed .add-delivery .ensures .1)
 
 next-line-requires : tie.Need-next-line-requires Inv-loop μ-loop
 next-line-requires c κs =
@@ -264,8 +264,8 @@ returns-5 c =
 enum-told-3 : tie.Need-enum-told-3 Inv-loop μ-loop
 enum-told-3 c = search needs
 
-keep-key-requires-2 : tie.Need-keep-key-requires-2 Inv-loop μ-loop
-keep-key-requires-2 c κs =
+keep-spelling-requires-2 : tie.Need-keep-spelling-requires-2 Inv-loop μ-loop
+keep-spelling-requires-2 c κs =
     let taken = c .before .before .before in
     let at-loop = taken .before .before .before .before .before .before .before .before .before .before in
     omega (arith, source-room taken .0, ap (λ (n : Counts). n .sources) (at-loop .loop .inv .counts))
@@ -306,12 +306,12 @@ loop-less-3 c =
 loop-again-3 : tie.Need-loop-again-3 Inv-loop μ-loop
 loop-again-3 c =
     let levelled = c .before in
-    let keyed = levelled .before .before in
-    let taken = keyed .before .before .before .before in
+    let spelled = levelled .before .before in
+    let taken = spelled .before .before .before .before in
     let tried = taken .before .before in
     let at-loop = tried .before .before .before .before .before .before .before .before in
     let start = at-loop .before .before in
-    checks-source (text at-loop) (outcome at-loop) (start .args .losses) (at-loop .loop .n) (tables at-loop) (at-loop .loop .totals) (at-loop .loop .at) (at-loop .loop .inv) _ (source-turn tried) (taken .enum-told3 .given .1) _ _ _ _ (keyed .keep-key2 .ensures .0) (keyed .keep-key2 .ensures .1) (ap (set (at-loop .loop .high) (at-loop .loop .n .sources)) (levelled .unit-high .ensures)) (c .add-source .ensures .0) (c .add-source .ensures .1)
+    checks-source (text at-loop) (outcome at-loop) (start .args .losses) (at-loop .loop .n) (tables at-loop) (at-loop .loop .totals) (at-loop .loop .at) (at-loop .loop .inv) _ (source-turn tried) (taken .enum-told3 .given .1) _ _ _ _ (spelled .keep-spelling2 .ensures .0) (spelled .keep-spelling2 .ensures .1) (ap (set (at-loop .loop .high) (at-loop .loop .n .sources)) (levelled .unit-high .ensures)) (c .add-source .ensures .0) (c .add-source .ensures .1)
 
 next-line-requires-2 : tie.Need-next-line-requires-2 Inv-loop μ-loop
 next-line-requires-2 c κs =
@@ -348,7 +348,7 @@ check-rows-spec =
     enum-known-v
     returns-2
     enum-told
-    keep-key-requires
+    keep-spelling-requires
     add-delivery-requires
     add-n-2
     loop-less-2
@@ -366,7 +366,7 @@ check-rows-spec =
     enum-known-v-3
     returns-5
     enum-told-3
-    keep-key-requires-2
+    keep-spelling-requires-2
     unit-high-requires
     mul-high
     array-write-high

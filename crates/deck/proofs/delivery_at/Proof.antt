@@ -48,8 +48,8 @@ part-label-at-end c = stands c .within
 label-at-requires : tie.Need-label-at-requires
 label-at-requires c κs = stands (c .before) .few
 
-key-of-requires : tie.Need-key-of-requires
-key-of-requires c κs = search needs
+spelling-of-requires : tie.Need-spelling-of-requires
+spelling-of-requires c κs = search needs
 
 delivery-in-range-requires : tie.Need-delivery-in-range-requires
 delivery-in-range-requires c κs = search needs
@@ -61,11 +61,11 @@ returns-2 : tie.Need-returns-2
 unfolding steps.deliveryTook
 returns-2 c =
     let after-delivery-in-range = c .before in
-    let after-key-of = after-delivery-in-range .before in
-    let after-label-at = after-key-of .before in
+    let after-spelling-of = after-delivery-in-range .before in
+    let after-label-at = after-spelling-of .before in
     let after-sequence = after-label-at .before .before .before in
     let after-delivery = after-sequence .before .before in
-    rw (← (after-delivery .delivery .ensures), after-sequence .sequence .given .1, c .take-delivery .ensures, after-delivery-in-range .delivery-in-range .ensures, after-key-of .key-of .ensures, after-label-at .label-at .ensures)
+    rw (← (after-delivery .delivery .ensures), after-sequence .sequence .given .1, c .take-delivery .ensures, after-delivery-in-range .delivery-in-range .ensures, after-spelling-of .spelling-of .ensures, after-label-at .label-at .ensures)
 
 pub delivery-at-spec : {M : Type 1} → statement M
 delivery-at-spec =
@@ -81,7 +81,7 @@ delivery-at-spec =
     part-label-at-start
     part-label-at-end
     label-at-requires
-    key-of-requires
+    spelling-of-requires
     delivery-in-range-requires
     take-delivery-requires
     returns-2)

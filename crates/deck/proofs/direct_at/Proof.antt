@@ -24,15 +24,15 @@ returns c =
     let after-direct = after-enum-told .before .before in
     rw (← (after-direct .direct .ensures), after-enum-told .enum-told .given .1, c .next-line .ensures)
 
-key-at-requires : tie.Need-key-at-requires
-key-at-requires c κs =
+spelling-at-requires : tie.Need-spelling-at-requires
+spelling-at-requires c κs =
     let after-basis = c .before in
     let after-direct = after-basis .before .before in
     let start = after-direct .before .before in
     unit-named-told (start .args .s .now) (start .args .at) (after-basis .basis .given .0 .0) (after-basis .basis .given .0 .1 .0) (after-basis .basis .given .0 .1 .1 .0) (after-basis .basis .given .0 .1 .1 .1 .0) (after-basis .basis .given .0 .1 .1 .1 .1 .0) (after-basis .basis .given .0 .1 .1 .1 .1 .1 .0) (after-basis .basis .given .0 .1 .1 .1 .1 .1 .1 .0) (sym (after-direct .direct .ensures) ∙ after-basis .basis .given .1)
 
-key-at-requires-2 : tie.Need-key-at-requires-2
-key-at-requires-2 c κs =
+spelling-at-requires-2 : tie.Need-spelling-at-requires-2
+spelling-at-requires-2 c κs =
     let after-basis = c .before .before in
     let after-direct = after-basis .before .before in
     let start = after-direct .before .before in
@@ -48,11 +48,11 @@ returns-2 : tie.Need-returns-2
 unfolding steps.directTook
 returns-2 c =
     let after-direct-in-range = c .before in
-    let after-key-at2 = after-direct-in-range .before in
-    let after-key-at = after-key-at2 .before in
-    let after-basis = after-key-at .before .before in
+    let after-spelling-at2 = after-direct-in-range .before in
+    let after-spelling-at = after-spelling-at2 .before in
+    let after-basis = after-spelling-at .before .before in
     let after-direct = after-basis .before .before in
-    rw (← (after-direct .direct .ensures), after-basis .basis .given .1, c .take-direct .ensures, after-direct-in-range .direct-in-range .ensures, after-key-at2 .key-at2 .ensures, after-key-at .key-at .ensures)
+    rw (← (after-direct .direct .ensures), after-basis .basis .given .1, c .take-direct .ensures, after-direct-in-range .direct-in-range .ensures, after-spelling-at2 .spelling-at2 .ensures, after-spelling-at .spelling-at .ensures)
 
 pub direct-at-spec : {M : Type 1} → statement M
 direct-at-spec =
@@ -63,8 +63,8 @@ direct-at-spec =
     enum-told
     next-line-requires
     returns
-    key-at-requires
-    key-at-requires-2
+    spelling-at-requires
+    spelling-at-requires-2
     direct-in-range-requires
     take-direct-requires
     returns-2)

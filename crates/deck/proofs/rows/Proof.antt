@@ -189,8 +189,8 @@ returns-2 c =
 enum-told : tie.Need-enum-told Inv-loop μ-loop
 enum-told c = search needs
 
-keep-key-requires : tie.Need-keep-key-requires Inv-loop μ-loop
-keep-key-requires c κs =
+keep-spelling-requires : tie.Need-keep-spelling-requires Inv-loop μ-loop
+keep-spelling-requires c κs =
     let taken = c .before .before .before in
     omega (arith, delivery-room taken .0)
 
@@ -233,11 +233,11 @@ loop-less-2 c =
 
 loop-again-2 : tie.Need-loop-again-2 Inv-loop μ-loop
 loop-again-2 c =
-    let keyed = c .before .before .before in
-    let taken = keyed .before .before .before .before in
+    let spelled = c .before .before .before in
+    let taken = spelled .before .before .before .before in
     let tried = taken .before .before in
     let at-loop = tried .before .before .before .before .before .before .before in
-    rows-delivery (text at-loop) (outcome at-loop) (at-loop .loop .h) (tables at-loop) (at-loop .loop .totals) (at-loop .loop .sources) (at-loop .loop .deliveries) (at-loop .loop .at) (at-loop .loop .inv) _ (delivery-turn tried) (taken .enum-told .given .1) _ _ _ (keyed .keep-key .ensures .0) (keyed .keep-key .ensures .1) (c .add-delivery .ensures .0) (c .add-delivery .ensures .1)
+    rows-delivery (text at-loop) (outcome at-loop) (at-loop .loop .h) (tables at-loop) (at-loop .loop .totals) (at-loop .loop .sources) (at-loop .loop .deliveries) (at-loop .loop .at) (at-loop .loop .inv) _ (delivery-turn tried) (taken .enum-told .given .1) _ _ _ (spelled .keep-spelling .ensures .0) (spelled .keep-spelling .ensures .1) (c .add-delivery .ensures .0) (c .add-delivery .ensures .1)
 
 next-line-requires : tie.Need-next-line-requires Inv-loop μ-loop
 next-line-requires c κs =
@@ -321,8 +321,8 @@ returns-6 c =
 enum-told-4 : tie.Need-enum-told-4 Inv-loop μ-loop
 enum-told-4 c = search needs
 
-keep-key-requires-2 : tie.Need-keep-key-requires-2 Inv-loop μ-loop
-keep-key-requires-2 c κs =
+keep-spelling-requires-2 : tie.Need-keep-spelling-requires-2 Inv-loop μ-loop
+keep-spelling-requires-2 c κs =
     let taken = c .before .before .before in
     omega (arith, source-room taken .0)
 
@@ -380,11 +380,11 @@ loop-again-3 : tie.Need-loop-again-3 Inv-loop μ-loop
 loop-again-3 c =
     let summed = c .before in
     let levelled = summed .before in
-    let keyed = levelled .before .before in
-    let taken = keyed .before .before .before .before in
+    let spelled = levelled .before .before in
+    let taken = spelled .before .before .before .before in
     let tried = taken .before .before in
     let at-loop = tried .before .before .before .before .before .before .before .before in
-    rows-source (text at-loop) (outcome at-loop) (at-loop .loop .h) (tables at-loop) (at-loop .loop .totals) (at-loop .loop .sources) (at-loop .loop .deliveries) (at-loop .loop .at) (at-loop .loop .inv) _ (source-turn tried) (taken .enum-told4 .given .1) _ _ _ _ (keyed .keep-key2 .ensures .0) (keyed .keep-key2 .ensures .1) (ap (set (at-loop .loop .high) (at-loop .loop .h .nsources)) (levelled .unit-high .ensures)) (summed .add-source .ensures .0) (summed .add-source .ensures .1)
+    rows-source (text at-loop) (outcome at-loop) (at-loop .loop .h) (tables at-loop) (at-loop .loop .totals) (at-loop .loop .sources) (at-loop .loop .deliveries) (at-loop .loop .at) (at-loop .loop .inv) _ (source-turn tried) (taken .enum-told4 .given .1) _ _ _ _ (spelled .keep-spelling2 .ensures .0) (spelled .keep-spelling2 .ensures .1) (ap (set (at-loop .loop .high) (at-loop .loop .h .nsources)) (levelled .unit-high .ensures)) (summed .add-source .ensures .0) (summed .add-source .ensures .1)
 
 next-line-requires-2 : tie.Need-next-line-requires-2 Inv-loop μ-loop
 next-line-requires-2 c κs =
@@ -428,7 +428,7 @@ rows-spec =
     refused-requires-2
     returns-2
     enum-told
-    keep-key-requires
+    keep-spelling-requires
     mul-deliveries
     array-set-from-deliveries
     add-delivery-requires
@@ -456,7 +456,7 @@ rows-spec =
     refused-requires-5
     returns-6
     enum-told-4
-    keep-key-requires-2
+    keep-spelling-requires-2
     unit-high-requires
     mul-high
     array-write-high

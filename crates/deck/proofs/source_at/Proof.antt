@@ -48,8 +48,8 @@ part-label-at-end c = omega (arith, stands c .within)
 label-at-requires : tie.Need-label-at-requires
 label-at-requires c κs = stands (c .before) .few
 
-key-of-requires : tie.Need-key-of-requires
-key-of-requires c κs = search needs
+spelling-of-requires : tie.Need-spelling-of-requires
+spelling-of-requires c κs = search needs
 
 take-source-requires : tie.Need-take-source-requires
 take-source-requires c κs = search needs
@@ -57,10 +57,10 @@ take-source-requires c κs = search needs
 returns-2 : tie.Need-returns-2
 unfolding steps.sourceStep
 returns-2 c =
-    let key = c .before in
-    let label = key .before in
+    let spelling = c .before in
+    let label = spelling .before in
     let line = label .before .before .before in
-    rw (← (line .before .before .plant-at .ensures), line .ranged .given .1, c .take-source .ensures, key .key-of .ensures, label .label-at .ensures)
+    rw (← (line .before .before .plant-at .ensures), line .ranged .given .1, c .take-source .ensures, spelling .spelling-of .ensures, label .label-at .ensures)
 
 pub source-at-spec : {M : Type 1} → statement M
 source-at-spec =
@@ -76,6 +76,6 @@ source-at-spec =
     part-label-at-start
     part-label-at-end
     label-at-requires
-    key-of-requires
+    spelling-of-requires
     take-source-requires
     returns-2)

@@ -13,8 +13,8 @@ returns-2 : tie.Need-returns-2
 unfolding tried.labelTried
 returns-2 c = rw (c .before .if1 .left, le-leb 32 _ (c .if2 .taken))
 
-find-key-requires : tie.Need-find-key-requires
-find-key-requires c κs = search needs
+find-spelling-requires : tie.Need-find-spelling-requires
+find-spelling-requires c κs = search needs
 
 enum-known-i : tie.Need-enum-known-i
 enum-known-i c = search needs
@@ -23,10 +23,10 @@ returns-3 : tie.Need-returns-3
 unfolding tried.labelTried
 returns-3 c =
     let after-i = c .before in
-    let after-find-key = after-i .before .before in
-    let if2-left = after-find-key .before in
+    let after-find-spelling = after-i .before .before in
+    let if2-left = after-find-spelling .before in
     let if1-left = if2-left .before in
-    rw (if1-left .if1 .left, lt-leb 32 _ (if2-left .if2 .left), ← (after-find-key .find-key .ensures), after-i .i .given .1)
+    rw (if1-left .if1 .left, lt-leb 32 _ (if2-left .if2 .left), ← (after-find-spelling .find-spelling .ensures), after-i .i .given .1)
 
 enum-told : tie.Need-enum-told
 enum-told c = search needs
@@ -34,12 +34,12 @@ enum-told c = search needs
 returns-4 : tie.Need-returns-4
 unfolding tried.labelTried
 returns-4 c =
-    let after-find-key = c .before .before in
-    let if2-left = after-find-key .before in
+    let after-find-spelling = c .before .before in
+    let if2-left = after-find-spelling .before in
     let if1-left = if2-left .before in
-    rw (if1-left .if1 .left, lt-leb 32 _ (if2-left .if2 .left), ← (after-find-key .find-key .ensures), c .enum-told .given .1)
+    rw (if1-left .if1 .left, lt-leb 32 _ (if2-left .if2 .left), ← (after-find-spelling .find-spelling .ensures), c .enum-told .given .1)
 
 pub take-label-spec : {M : Type 1} → statement M
 take-label-spec =
     tie.close
-    (tie.spec returns returns-2 find-key-requires enum-known-i returns-3 enum-told returns-4)
+    (tie.spec returns returns-2 find-spelling-requires enum-known-i returns-3 enum-told returns-4)

@@ -17,28 +17,28 @@ use Rattle.laws.specs.Answers.{verdict-accepted, verdict-refused}
 use Rattle.line_rules.specs.Tried as tried
 use Rattle.line_rules.specs.Tried.{nextLine, labelTried, sourceTried}
 use Rattle.line_rules.specs.declared.Counts.{Counts}
-use Rattle.line_rules.specs.declared.Key.{Key}
+use Rattle.line_rules.specs.declared.Spelling.{Spelling}
 use Rattle.line_rules.proofs.take_source.Statement.{statement}
 use Rattle.line_rules.proofs.take_source.Tie as tie
 
-module _ (n : Counts) (inRange : Bool) (plant : Plant) (key : Key) (lo hi : List ℕ) (line : ℕ) (l : line ≡ nextLine n) (o : n .deliveries + n .directs ≡ 0) where
-  told : (v w : Verdict) → v ≡ verdictOf (labelTried line inRange (n .sources) key lo hi) → v ≡ w → verdictOf (labelTried (nextLine n) inRange (n .sources) key lo hi) ≡ w
-  told v w e is = ap (λ (l : ℕ). verdictOf (labelTried l inRange (n .sources) key lo hi)) (sym l) ∙ sym e ∙ is
+module _ (n : Counts) (inRange : Bool) (plant : Plant) (spelling : Spelling) (lo hi : List ℕ) (line : ℕ) (l : line ≡ nextLine n) (o : n .deliveries + n .directs ≡ 0) where
+  told : (v w : Verdict) → v ≡ verdictOf (labelTried line inRange (n .sources) spelling lo hi) → v ≡ w → verdictOf (labelTried (nextLine n) inRange (n .sources) spelling lo hi) ≡ w
+  told v w e is = ap (λ (l : ℕ). verdictOf (labelTried l inRange (n .sources) spelling lo hi)) (sym l) ∙ sym e ∙ is
 
-  by-label : (v : Verdict) (r : Refusal) → v ≡ verdictOf (labelTried line inRange (n .sources) key lo hi) → v ≡ Refused r
-      → Refused r ≡ verdictOf (sourceTried n inRange plant key lo hi)
+  by-label : (v : Verdict) (r : Refusal) → v ≡ verdictOf (labelTried line inRange (n .sources) spelling lo hi) → v ≡ Refused r
+      → Refused r ≡ verdictOf (sourceTried n inRange plant spelling lo hi)
   unfolding tried.sourceTried
-  by-label v r e is = rw (eq-eqb _ 0 o, verdict-refused (labelTried (nextLine n) inRange (n .sources) key lo hi) r (told v (Refused r) e is))
+  by-label v r e is = rw (eq-eqb _ 0 o, verdict-refused (labelTried (nextLine n) inRange (n .sources) spelling lo hi) r (told v (Refused r) e is))
 
-  by-levels : (v : Verdict) → v ≡ verdictOf (labelTried line inRange (n .sources) key lo hi) → v ≡ Accepted → levelled plant ≡ false
-      → Refused (Levels line) ≡ verdictOf (sourceTried n inRange plant key lo hi)
+  by-levels : (v : Verdict) → v ≡ verdictOf (labelTried line inRange (n .sources) spelling lo hi) → v ≡ Accepted → levelled plant ≡ false
+      → Refused (Levels line) ≡ verdictOf (sourceTried n inRange plant spelling lo hi)
   unfolding tried.sourceTried
-  by-levels v e is f = rw (eq-eqb _ 0 o, verdict-accepted (labelTried (nextLine n) inRange (n .sources) key lo hi) (told v Accepted e is) .1, f, l)
+  by-levels v e is f = rw (eq-eqb _ 0 o, verdict-accepted (labelTried (nextLine n) inRange (n .sources) spelling lo hi) (told v Accepted e is) .1, f, l)
 
-  by-all : (v : Verdict) → v ≡ verdictOf (labelTried line inRange (n .sources) key lo hi) → v ≡ Accepted → levelled plant ≡ true
-      → Accepted ≡ verdictOf (sourceTried n inRange plant key lo hi)
+  by-all : (v : Verdict) → v ≡ verdictOf (labelTried line inRange (n .sources) spelling lo hi) → v ≡ Accepted → levelled plant ≡ true
+      → Accepted ≡ verdictOf (sourceTried n inRange plant spelling lo hi)
   unfolding tried.sourceTried
-  by-all v e is f = rw (eq-eqb _ 0 o, verdict-accepted (labelTried (nextLine n) inRange (n .sources) key lo hi) (told v Accepted e is) .1, f)
+  by-all v e is f = rw (eq-eqb _ 0 o, verdict-accepted (labelTried (nextLine n) inRange (n .sources) spelling lo hi) (told v Accepted e is) .1, f)
 
 next-line-requires : tie.Need-next-line-requires
 next-line-requires c κs = search needs
@@ -62,7 +62,7 @@ returns-2 c =
     let left = label .before in
     let line = left .before .before in
     let x = line .before .args in
-    by-label (x .n) (x .ranged) (x .plant) (x .key) (now (x .lo)) (now (x .hi)) _ (line .next-line .ensures) (left .if1 .left) _ _ (label .take-label .ensures) (c .before .r .given .1)
+    by-label (x .n) (x .ranged) (x .plant) (x .spelling) (now (x .lo)) (now (x .hi)) _ (line .next-line .ensures) (left .if1 .left) _ _ (label .take-label .ensures) (c .before .r .given .1)
 
 enum-told : tie.Need-enum-told
 enum-told c = search needs
@@ -78,7 +78,7 @@ returns-3 c =
     let left = label .before in
     let line = left .before .before in
     let x = line .before .args in
-    by-levels (x .n) (x .ranged) (x .plant) (x .key) (now (x .lo)) (now (x .hi)) _ (line .next-line .ensures) (left .if1 .left) _ (label .take-label .ensures) (told .enum-told .given .1)
+    by-levels (x .n) (x .ranged) (x .plant) (x .spelling) (now (x .lo)) (now (x .hi)) _ (line .next-line .ensures) (left .if1 .left) _ (label .take-label .ensures) (told .enum-told .given .1)
     (sym (levels .in-levels .ensures) ∙ not-true _ (c .if2 .taken))
 
 returns-4 : tie.Need-returns-4
@@ -89,7 +89,7 @@ returns-4 c =
     let left = label .before in
     let line = left .before .before in
     let x = line .before .args in
-    by-all (x .n) (x .ranged) (x .plant) (x .key) (now (x .lo)) (now (x .hi)) _ (line .next-line .ensures) (left .if1 .left) _ (label .take-label .ensures) (told .enum-told .given .1)
+    by-all (x .n) (x .ranged) (x .plant) (x .spelling) (now (x .lo)) (now (x .hi)) _ (line .next-line .ensures) (left .if1 .left) _ (label .take-label .ensures) (told .enum-told .given .1)
     (sym (levels .in-levels .ensures) ∙ not-false _ (c .if2 .left))
 
 pub take-source-spec : {M : Type 1} → statement M

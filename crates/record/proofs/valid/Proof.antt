@@ -16,7 +16,7 @@ use Rattle.line_rules.specs.Tried.{countsOf, Few}
 use Rattle.line_rules.specs.Totalled.{Totalled, totalled-none, totalled-source, totalled-delivery, finished-by}
 use Rattle.rules.specs.Answers.{verdictOf}
 use Rattle.rules.specs.Reading.{finished}
-use Rattle.line_rules.specs.declared.Key.{Key}
+use Rattle.line_rules.specs.declared.Spelling.{Spelling}
 use Rattle.record.specs.Shape.{sourceBlank, deliveryBlank, directBlank}
 use Rattle.record.specs.Loops.{allTo-on, allTo-fails, allTo-end, length-mapped}
 use Rattle.record.specs.Own as own
@@ -79,21 +79,21 @@ few c = few-from _ (few-told c)
 
 source-is : (c : tie.After-source-given Inv-loop μ-loop Inv-loop2 μ-loop2 Inv-loop3 μ-loop3 Inv-loop4 μ-loop4 Inv-loop5 μ-loop5 Inv-loop6 μ-loop6) → let at-sources = c .before .before .before .before .before .before .before .before .before .before in let start = at-sources .before .before .before .before .before in sourceOwnAt (start .args .t1 .sources) (at-sources .loop .i) ≡ c .source-given .result
 source-is c =
-    let keyed = c .before .before .before in
-    let labelled = keyed .before in
+    let spelled = c .before .before .before in
+    let labelled = spelled .before in
     let label-tried = labelled .before in
     let at-sources = label-tried .before .before .before .before .before in
     let start = at-sources .before .before .before .before .before in
-    source-labelled _ (getD (start .args .t1 .sources) (at-sources .loop .i) noSource) _ _ _ _ _ _ _ (sym (label-tried .is-label .ensures) ∙ not-false _ (labelled .if4 .left)) (keyed .key-of .ensures) (at-sources .loop .inv .2) (at-sources .loop .inv .3) (c .source-given .ensures)
+    source-labelled _ (getD (start .args .t1 .sources) (at-sources .loop .i) noSource) _ _ _ _ _ _ _ (sym (label-tried .is-label .ensures) ∙ not-false _ (labelled .if4 .left)) (spelled .spelling-of .ensures) (at-sources .loop .inv .2) (at-sources .loop .inv .3) (c .source-given .ensures)
 
 delivery-is : (c : tie.After-delivery-given Inv-loop μ-loop Inv-loop2 μ-loop2 Inv-loop3 μ-loop3 Inv-loop4 μ-loop4 Inv-loop5 μ-loop5 Inv-loop6 μ-loop6) → let at-deliveries = c .before .before .before .before .before .before .before .before .before .before in let start = at-deliveries .before .before .before .before .before .before .before .before in deliveryOwnAt (start .args .t1 .nsources) (start .args .t1 .deliveries) (at-deliveries .loop2 .j) ≡ c .delivery-given .result
 delivery-is c =
-    let keyed = c .before .before .before in
-    let labelled = keyed .before in
+    let spelled = c .before .before .before in
+    let labelled = spelled .before in
     let label-tried = labelled .before in
     let at-deliveries = label-tried .before .before .before .before .before in
     let start = at-deliveries .before .before .before .before .before .before .before .before in
-    delivery-labelled _ _ (getD (start .args .t1 .deliveries) (at-deliveries .loop2 .j) noDelivery) _ _ _ _ _ _ _ (sym (label-tried .is-label2 .ensures) ∙ not-false _ (labelled .if7 .left)) (keyed .key-of2 .ensures) (at-deliveries .loop2 .inv .2) (at-deliveries .loop2 .inv .3) (c .delivery-given .ensures)
+    delivery-labelled _ _ (getD (start .args .t1 .deliveries) (at-deliveries .loop2 .j) noDelivery) _ _ _ _ _ _ _ (sym (label-tried .is-label2 .ensures) ∙ not-false _ (labelled .if7 .left)) (spelled .spelling-of2 .ensures) (at-deliveries .loop2 .inv .2) (at-deliveries .loop2 .inv .3) (c .delivery-given .ensures)
 
 highs : (c : tie.Else3 Inv-loop μ-loop Inv-loop2 μ-loop2 Inv-loop3 μ-loop3 Inv-loop4 μ-loop4 Inv-loop5 μ-loop5 Inv-loop6 μ-loop6) → let at-sources = c .before .before in let start = at-sources .before .before .before .before .before in at-sources .loop .high ≡ highsTo (start .args .t1 .sources) (start .args .t1 .nsources)
 highs c =
@@ -190,8 +190,8 @@ returns-3 c =
     let start = at-sources .before .before .before .before .before in
     fails-valid (start .args .t1) _ (λ p. p .sources) (allTo-fails _ _ (at-sources .loop .i) (a-source .if3 .taken) (source-unlabelled _ (getD (start .args .t1 .sources) (at-sources .loop .i) noSource) _ _ _ (sym (label-tried .is-label .ensures) ∙ not-true _ (c .if4 .taken))))
 
-key-of-requires : tie.Need-key-of-requires Inv-loop μ-loop Inv-loop2 μ-loop2 Inv-loop3 μ-loop3 Inv-loop4 μ-loop4 Inv-loop5 μ-loop5 Inv-loop6 μ-loop6
-key-of-requires c κs = search needs
+spelling-of-requires : tie.Need-spelling-of-requires Inv-loop μ-loop Inv-loop2 μ-loop2 Inv-loop3 μ-loop3 Inv-loop4 μ-loop4 Inv-loop5 μ-loop5 Inv-loop6 μ-loop6
+spelling-of-requires c κs = search needs
 
 source-given-requires : tie.Need-source-given-requires Inv-loop μ-loop Inv-loop2 μ-loop2 Inv-loop3 μ-loop3 Inv-loop4 μ-loop4 Inv-loop5 μ-loop5 Inv-loop6 μ-loop6
 source-given-requires c κs =
@@ -207,8 +207,8 @@ returns-4 c =
     let start = at-sources .before .before .before .before .before in
     fails-valid (start .args .t1) _ (λ p. p .sources) (allTo-fails _ _ (at-sources .loop .i) (a-source .if3 .taken) (source-is tried ∙ not-true _ (c .if5 .taken)))
 
-keep-key-requires : tie.Need-keep-key-requires Inv-loop μ-loop Inv-loop2 μ-loop2 Inv-loop3 μ-loop3 Inv-loop4 μ-loop4 Inv-loop5 μ-loop5 Inv-loop6 μ-loop6
-keep-key-requires c κs =
+keep-spelling-requires : tie.Need-keep-spelling-requires Inv-loop μ-loop Inv-loop2 μ-loop2 Inv-loop3 μ-loop3 Inv-loop4 μ-loop4 Inv-loop5 μ-loop5 Inv-loop6 μ-loop6
+keep-spelling-requires c κs =
     let a-source = c .before .before .before .before .before .before .before .before .before .before .before in
     let few-there = a-source .before .before .before .before .before in
     omega (arith, few few-there .sources, a-source .if3 .taken)
@@ -247,16 +247,16 @@ loop-again c =
     let kept = levelled .before in
     let passed = kept .before .before .before in
     let tried = passed .before in
-    let keyed = tried .before .before .before in
-    let a-source = keyed .before .before .before .before .before in
+    let spelled = tried .before .before .before in
+    let a-source = spelled .before .before .before .before .before in
     let at-sources = a-source .before .before in
     let start = at-sources .before .before .before .before .before in
     let inv = at-sources .loop .inv in
-    let key = keyed .key-of .ensures in (
+    let spelling = spelled .spelling-of .ensures in (
       omega (arith, a-source .if3 .taken),
       allTo-on _ _ (inv .1) (source-is tried ∙ not-false _ (passed .if5 .left)),
-      kept .keep-key .ensures .0 ∙ fillTo-more _ _ _ _ _ (inv .2) (ap (λ (k : Key). k .lo) key),
-      kept .keep-key .ensures .1 ∙ fillTo-more _ _ _ _ _ (inv .3) (ap (λ (k : Key). k .hi) key),
+      kept .keep-spelling .ensures .0 ∙ fillTo-more _ _ _ _ _ (inv .2) (ap (λ (k : Spelling). k .lo) spelling),
+      kept .keep-spelling .ensures .1 ∙ fillTo-more _ _ _ _ _ (inv .3) (ap (λ (k : Spelling). k .hi) spelling),
       fillTo-more _ _ _ _ _ (inv .4) (levelled .unit-high .ensures),
       totalled-source _ _ _ _ _ (inv .5) _ (getD (start .args .t1 .sources) (at-sources .loop .i) noSource) _ (λ i l. refl) refl (c .add-source .ensures .0) (c .add-source .ensures .1),
     )
@@ -285,8 +285,8 @@ returns-5 c =
     let start = at-deliveries .before .before .before .before .before .before .before .before in
     fails-valid (start .args .t1) _ (λ p. p .deliveries) (allTo-fails _ _ (at-deliveries .loop2 .j) (a-delivery .if6 .taken) (delivery-unlabelled _ _ (getD (start .args .t1 .deliveries) (at-deliveries .loop2 .j) noDelivery) _ _ _ (sym (label-tried .is-label2 .ensures) ∙ not-true _ (c .if7 .taken))))
 
-key-of-requires-2 : tie.Need-key-of-requires-2 Inv-loop μ-loop Inv-loop2 μ-loop2 Inv-loop3 μ-loop3 Inv-loop4 μ-loop4 Inv-loop5 μ-loop5 Inv-loop6 μ-loop6
-key-of-requires-2 c κs = search needs
+spelling-of-requires-2 : tie.Need-spelling-of-requires-2 Inv-loop μ-loop Inv-loop2 μ-loop2 Inv-loop3 μ-loop3 Inv-loop4 μ-loop4 Inv-loop5 μ-loop5 Inv-loop6 μ-loop6
+spelling-of-requires-2 c κs = search needs
 
 delivery-given-requires : tie.Need-delivery-given-requires Inv-loop μ-loop Inv-loop2 μ-loop2 Inv-loop3 μ-loop3 Inv-loop4 μ-loop4 Inv-loop5 μ-loop5 Inv-loop6 μ-loop6
 delivery-given-requires c κs =
@@ -302,8 +302,8 @@ returns-6 c =
     let start = at-deliveries .before .before .before .before .before .before .before .before in
     fails-valid (start .args .t1) _ (λ p. p .deliveries) (allTo-fails _ _ (at-deliveries .loop2 .j) (a-delivery .if6 .taken) (delivery-is tried ∙ not-true _ (c .if8 .taken)))
 
-keep-key-requires-2 : tie.Need-keep-key-requires-2 Inv-loop μ-loop Inv-loop2 μ-loop2 Inv-loop3 μ-loop3 Inv-loop4 μ-loop4 Inv-loop5 μ-loop5 Inv-loop6 μ-loop6
-keep-key-requires-2 c κs =
+keep-spelling-requires-2 : tie.Need-keep-spelling-requires-2 Inv-loop μ-loop Inv-loop2 μ-loop2 Inv-loop3 μ-loop3 Inv-loop4 μ-loop4 Inv-loop5 μ-loop5 Inv-loop6 μ-loop6
+keep-spelling-requires-2 c κs =
     let a-delivery = c .before .before .before .before .before .before .before .before .before .before .before in
     let few-there = a-delivery .before .before .before .before .before .before .before .before in
     omega (arith, few few-there .deliveries, a-delivery .if6 .taken)
@@ -326,16 +326,16 @@ loop2-again c =
     let kept = c .before in
     let passed = kept .before .before .before in
     let tried = passed .before in
-    let keyed = tried .before .before .before in
-    let a-delivery = keyed .before .before .before .before .before in
+    let spelled = tried .before .before .before in
+    let a-delivery = spelled .before .before .before .before .before in
     let at-deliveries = a-delivery .before .before in
     let start = at-deliveries .before .before .before .before .before .before .before .before in
     let inv = at-deliveries .loop2 .inv in
-    let key = keyed .key-of2 .ensures in (
+    let spelling = spelled .spelling-of2 .ensures in (
       omega (arith, a-delivery .if6 .taken),
       allTo-on _ _ (inv .1) (delivery-is tried ∙ not-false _ (passed .if8 .left)),
-      kept .keep-key2 .ensures .0 ∙ fillTo-more _ _ _ _ _ (inv .2) (ap (λ (k : Key). k .lo) key),
-      kept .keep-key2 .ensures .1 ∙ fillTo-more _ _ _ _ _ (inv .3) (ap (λ (k : Key). k .hi) key),
+      kept .keep-spelling2 .ensures .0 ∙ fillTo-more _ _ _ _ _ (inv .2) (ap (λ (k : Spelling). k .lo) spelling),
+      kept .keep-spelling2 .ensures .1 ∙ fillTo-more _ _ _ _ _ (inv .3) (ap (λ (k : Spelling). k .hi) spelling),
       totalled-delivery _ _ _ _ _ (inv .4) _ (getD (start .args .t1 .deliveries) (at-deliveries .loop2 .j) noDelivery) _ (λ i l. refl) refl (c .add-delivery .ensures .0) (c .add-delivery .ensures .1),
     )
 
@@ -575,10 +575,10 @@ valid-spec =
     element-copy-out-x
     is-label-requires
     returns-3
-    key-of-requires
+    spelling-of-requires
     source-given-requires
     returns-4
-    keep-key-requires
+    keep-spelling-requires
     unit-high-requires
     mul-high
     array-write-high
@@ -591,10 +591,10 @@ valid-spec =
     element-copy-out-x-2
     is-label-requires-2
     returns-5
-    key-of-requires-2
+    spelling-of-requires-2
     delivery-given-requires
     returns-6
-    keep-key-requires-2
+    keep-spelling-requires-2
     add-delivery-requires
     add-j
     loop2-less

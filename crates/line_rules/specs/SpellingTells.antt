@@ -1,4 +1,4 @@
--- Two labels are the same exactly when their keys are.
+-- Two labels are the same exactly when their spellings are.
 use mathlib.Core.Path.{_≡_, refl, ap, sym, _∙_}
 use mathlib.Core.Bool.{true}
 use mathlib.Core.List.{List, [], _∷_, _++_}
@@ -16,10 +16,10 @@ use Rattle.rules.specs.declared.Label.{Label}
 use Rattle.laws.specs.Choices.{both-true}
 use Rattle.laws.specs.Lists.{sameList-tells, sameList-self}
 use Rattle.roundtrip.specs.Labels.{label-from, chars-label}
-use Rattle.line_rules.specs.Keys.{halfOf, keyOf, sameKey}
-use Rattle.line_rules.specs.Packed.{packTo-tells}
+use Rattle.line_rules.specs.Spellings.{halfOf, spellingOf, sameSpelling}
+use Rattle.line_rules.specs.ToBase256.{base256-tells}
 use Rattle.line_rules.specs.Finds.{truths-same}
-use Rattle.line_rules.specs.declared.Key.{Key}
+use Rattle.line_rules.specs.declared.Spelling.{Spelling}
 
 -- a label whose characters are a label's, with zeros after them
 pub record Labelled (l : Label) : Type 0 where
@@ -67,15 +67,15 @@ padded-tells (c ∷ cs) (d ∷ ds) n m a b e =
     let k = padded-tells cs ds n m (both-true (isCharacter c) (allCharacters cs) a .1) (both-true (isCharacter d) (allCharacters ds) b .1) t in
     cc
 
--- Keys.
+-- Spellings.
 
-pub sameKey-tells : (a b : Key) → sameKey a b ≡ true → a ≡ b
-sameKey-tells a b e =
+pub sameSpelling-tells : (a b : Spelling) → sameSpelling a b ≡ true → a ≡ b
+sameSpelling-tells a b e =
     let p = both-true (eqb (a .lo) (b .lo)) (eqb (a .hi) (b .hi)) e in
     rw (← (eqb-true (a .lo) (b .lo) (p .0)), ← (eqb-true (a .hi) (b .hi) (p .1)))
 
-pub sameKey-self : (a : Key) → sameKey a a ≡ true
-sameKey-self a = rw (eq-eqb (a .lo) (a .lo) refl, eq-eqb (a .hi) (a .hi) refl)
+pub sameSpelling-self : (a : Spelling) → sameSpelling a a ≡ true
+sameSpelling-self a = rw (eq-eqb (a .lo) (a .lo) refl, eq-eqb (a .hi) (a .hi) refl)
 
 -- sixteen bytes are told by their two halves
 halves-tell : (xs ys : List ℕ) → length xs ≡ 16 → length ys ≡ 16 → ((i : ℕ) → getD xs i 0 < 256) → ((i : ℕ) → getD ys i 0 < 256)
@@ -86,13 +86,13 @@ halves-tell xs ys n m a b lo hi = ext-getD 0 xs ys (omega arith) (λ i l. elim (
 ])
   where
     half : (from : ℕ) → halfOf xs from ≡ halfOf ys from → (i : ℕ) → i < 8 → getD xs (from + i) 0 ≡ getD ys (from + i) 0
-    half from e = packTo-tells (λ i. getD xs (from + i) 0) (λ i. getD ys (from + i) 0) 8 (λ i l. a (from + i)) (λ i l. b (from + i)) e
+    half from e = base256-tells (λ i. getD xs (from + i) 0) (λ i. getD ys (from + i) 0) 8 (λ i l. a (from + i)) (λ i l. b (from + i)) e
 
 padded-length : (cs : Chars) → length cs ≤ 16 → length (cs ++ zeros (16 - length cs)) ≡ 16
 unfolding zeros
 padded-length cs h = length-append cs (zeros (16 - length cs)) ∙ simp length-replicate (omega arith)
 
-chars-told : (cs ds : Chars) → isLabel cs ≡ true → isLabel ds ≡ true → keyOf (labelOf cs) ≡ keyOf (labelOf ds) → cs ≡ ds
+chars-told : (cs ds : Chars) → isLabel cs ≡ true → isLabel ds ≡ true → spellingOf (labelOf cs) ≡ spellingOf (labelOf ds) → cs ≡ ds
 unfolding zeros
 chars-told cs ds a b e =
     let p = label-from cs a in
@@ -101,18 +101,18 @@ chars-told cs ds a b e =
     (halves-tell (cs ++ zeros (16 - length cs)) (ds ++ zeros (16 - length ds))
     (padded-length cs (leb-true (length cs) 16 (p .few))) (padded-length ds (leb-true (length ds) 16 (q .few)))
     (λ i. padded-small cs (16 - length cs) i (p .all)) (λ i. padded-small ds (16 - length ds) i (q .all))
-    (ap (λ (k : Key). k .lo) e) (ap (λ (k : Key). k .hi) e))
+    (ap (λ (k : Spelling). k .lo) e) (ap (λ (k : Spelling). k .hi) e))
 
--- the same characters exactly where the key is the same
-pub key-tells : (a b : Label) → Labelled a → Labelled b → sameLabel a b ≡ sameKey (keyOf a) (keyOf b)
-key-tells a b p q =
-    truths-same (sameLabel a b) (sameKey (keyOf a) (keyOf b))
+-- the same characters exactly where the spelling is the same
+pub spelling-tells : (a b : Label) → Labelled a → Labelled b → sameLabel a b ≡ sameSpelling (spellingOf a) (spellingOf b)
+spelling-tells a b p q =
+    truths-same (sameLabel a b) (sameSpelling (spellingOf a) (spellingOf b))
     (λ e.
     let c : a ≡ b = sym (p .padded) ∙ ap labelOf (sameList-tells (chars a) (chars b) e) ∙ q .padded in
-    rw c (sameKey-self (keyOf b)))
+    rw c (sameSpelling-self (spellingOf b)))
     (λ e.
-    let k = ap keyOf (p .padded) ∙ sameKey-tells (keyOf a) (keyOf b) e ∙ ap keyOf (sym (q .padded)) in
+    let k = ap spellingOf (p .padded) ∙ sameSpelling-tells (spellingOf a) (spellingOf b) e ∙ ap spellingOf (sym (q .padded)) in
     rw (chars-told (chars a) (chars b) (p .label) (q .label) k) (sameList-self (chars b)))
 
-pub labels-keys : (cs ds : Chars) → isLabel cs ≡ true → isLabel ds ≡ true → sameLabel (labelOf cs) (labelOf ds) ≡ sameKey (keyOf (labelOf cs)) (keyOf (labelOf ds))
-labels-keys cs ds a b = key-tells (labelOf cs) (labelOf ds) (labelled cs a) (labelled ds b)
+pub labels-spellings : (cs ds : Chars) → isLabel cs ≡ true → isLabel ds ≡ true → sameLabel (labelOf cs) (labelOf ds) ≡ sameSpelling (spellingOf (labelOf cs)) (spellingOf (labelOf ds))
+labels-spellings cs ds a b = spelling-tells (labelOf cs) (labelOf ds) (labelled cs a) (labelled ds b)

@@ -1,7 +1,7 @@
 -- Both halves.
 use borrow.Author.Needs.{needs}
-use Rattle.line_rules.proofs.key_of.Statement.{statement}
-use Rattle.line_rules.proofs.key_of.Tie as tie
+use Rattle.line_rules.proofs.spelling_of.Statement.{statement}
+use Rattle.line_rules.proofs.spelling_of.Tie as tie
 
 half-of-requires : tie.Need-half-of-requires
 half-of-requires c κs = search needs
@@ -12,5 +12,5 @@ half-of-requires-2 c κs = search needs
 returns : tie.Need-returns
 returns c = rw (c .before .half-of .ensures, c .half-of2 .ensures)
 
-pub key-of-spec : {M : Type 1} → statement M
-key-of-spec = tie.close (tie.spec half-of-requires half-of-requires-2 returns)
+pub spelling-of-spec : {M : Type 1} → statement M
+spelling-of-spec = tie.close (tie.spec half-of-requires half-of-requires-2 returns)

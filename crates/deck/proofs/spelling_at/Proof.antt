@@ -1,7 +1,7 @@
--- `deck::key_at` meets its contract: the key of the label's characters.
+-- `deck::spelling_at` meets its contract: the spelling of the label's characters.
 use borrow.Author.Needs.{needs}
-use Rattle.deck.proofs.key_at.Statement.{statement}
-use Rattle.deck.proofs.key_at.Tie as tie
+use Rattle.deck.proofs.spelling_at.Statement.{statement}
+use Rattle.deck.proofs.spelling_at.Tie as tie
 
 sub-label-at : tie.Need-sub-label-at
 sub-label-at c = search needs
@@ -15,19 +15,19 @@ part-label-at-end c = search needs
 label-at-requires : tie.Need-label-at-requires
 label-at-requires c κs = search needs
 
-key-of-requires : tie.Need-key-of-requires
-key-of-requires c κs = search needs
+spelling-of-requires : tie.Need-spelling-of-requires
+spelling-of-requires c κs = search needs
 
 returns : tie.Need-returns
-returns c = rw (c .key-of .ensures, c .before .label-at .ensures)
+returns c = rw (c .spelling-of .ensures, c .before .label-at .ensures)
 
-pub key-at-spec : {M : Type 1} → statement M
-key-at-spec =
+pub spelling-at-spec : {M : Type 1} → statement M
+spelling-at-spec =
     tie.close
     (tie.spec
     sub-label-at
     part-label-at-start
     part-label-at-end
     label-at-requires
-    key-of-requires
+    spelling-of-requires
     returns)
