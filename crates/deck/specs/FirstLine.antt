@@ -51,6 +51,6 @@ rowsBy s at losses (Refused r) = refused r
 abbrev pub rowsAfter : List ℕ → ℕ → HeadStep → Outcome Hour
 rowsAfter s at x = rowsBy s at (x .losses) (x .verdict)
 
--- such a place is where the line after an accepted first one starts
+-- the place is where the line after an accepted first one starts
 abbrev pub Follows : List ℕ → ℕ → HeadStep → Type 0
 Follows s at x = x .verdict ≡ Accepted → at ≡ lineStart s 1

@@ -8,7 +8,7 @@ use native.Mathlib.Omega.{arith}
 use lib.ListN.{length, take, drop}
 use lib.Seq.{take-append-seam}
 use Rattle.rules.specs.Fields as fields
-use Rattle.rules.specs.Fields.{Field, got, malformed, onField, byteAt, escape, unescape, labelEnd, Place, bytesAt, charsAt, labelFrom, spacedNumber, spacedLabel, spacedBasis}
+use Rattle.rules.specs.Fields.{got, onField, byteAt, escape, unescape, labelEnd, Place, bytesAt, charsAt, labelFrom, spacedNumber, spacedLabel, spacedBasis}
 use Rattle.rules.specs.Lines as lines
 use Rattle.rules.specs.Lines.{Kind, number, basis, label, Letter, Fields, fieldsOf, fieldsAt, placesAt}
 use Rattle.laws.specs.Choices.{malformed-not-got, field-passed}

@@ -41,7 +41,7 @@ use Rattle.line_rules.specs.Kept.{Kept}
 use Rattle.line_rules.specs.TablesKept.{noTables, kept-started}
 use Rattle.line_rules.specs.Totalled.{noTotals, sourceTotalled, deliveryTotalled, Totalled, totalled-none, totalled-source, totalled-delivery}
 use Rattle.line_rules.specs.declared.Totals.{Totals}
-use Rattle.deck.specs.Answers.{nowhere, bytesOf, Holds, Placed, Scanned, refusedScan}
+use Rattle.deck.specs.Answers.{nowhere, Holds, Placed, Scanned, refusedScan}
 use Rattle.deck.specs.Steps.{endVerdict}
 use Rattle.deck.specs.Turns.{line-got, line-malformed, line-none, SourceTurn, DeliveryTurn, DirectTakes}
 use Rattle.deck.specs.declared.Place.{Place}

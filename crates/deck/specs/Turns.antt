@@ -172,7 +172,8 @@ module _ (s : List ℕ) (h : Hour) (t : Tables) (k : Kept h t) (at : ℕ) where
 
   -- once for the three letters: a line's entry, and its label
   module _ (l : Letter) (entry : Fields Chars (fieldsOf l) → Source) (place : Fields fields.Place (fieldsOf l) → fields.Place)
-      (first : (v : Fields fields.Place (fieldsOf l)) → FirstPlace (fieldsOf l) v (place v)) (b : letterOf (byte s at) ≡ some l) (i : isEnd l ≡ false) (inside : (w : Fields Chars (fieldsOf l)) → ranged (fieldsOf l) w ≡ plantInside (entry w .plant))
+      (first : (v : Fields fields.Place (fieldsOf l)) → FirstPlace (fieldsOf l) v (place v)) (b : letterOf (byte s at) ≡ some l) (i : isEnd l ≡ false)
+      (inside : (w : Fields Chars (fieldsOf l)) → ranged (fieldsOf l) w ≡ plantInside (entry w .plant))
       (took : (w : Fields Chars (fieldsOf l)) → taken h (line l w) ≡ sourceTaken h (ranged (fieldsOf l) w) (entry w)) where
     source-turn : (v : Fields fields.Place (fieldsOf l)) (next : ℕ) → placesAt s (at + 1) l ≡ got v next → LabelStands s (place v) → Escaped s (place v)
         → entry (seen (fieldsOf l) s v) .label ≡ labelOf (charsAt s (place v))

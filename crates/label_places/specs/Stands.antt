@@ -1,5 +1,5 @@
 -- A place that is a label's: where it starts and ends, and what the deck has there. The places that a deck's scan gives are such.
-use mathlib.Core.Path.{_≡_, refl, ap, sym, _∙_}
+use mathlib.Core.Path.{_≡_, refl, ap, _∙_}
 use mathlib.Core.List.{List, []}
 use Prim.Native.Nat.{ℕ, _+_, _-_, _≤_}
 use native.Mathlib.Decide.{decLt}
@@ -34,7 +34,7 @@ stands-code s start part p e =
 -- One class of a scan.
 
 -- nothing of a refused deck, and of an entry that an accepted one lacks
-pub stands-none : (s : List ℕ) (start : ℕ) (part : List ℕ) → part ≡ [] → Stands s (partStart start (length part)) part nowhere
+stands-none : (s : List ℕ) (start : ℕ) (part : List ℕ) → part ≡ [] → Stands s (partStart start (length part)) part nowhere
 stands-none s start part e = rw e (record { begins = refl; ends = refl; within = omega arith; small = omega arith; bytes = refl })
 
 module _ (s : List ℕ) (part : ℕ → List ℕ) (start : ℕ → ℕ) (ps : List Place) (e : Placed s part start ps) (short : (i : ℕ) → 1 ≤ length (part i) → length s ≤ 8192) where

@@ -3,7 +3,6 @@ use mathlib.Core.Path.{_≡_, subst}
 use mathlib.Core.List.{_++_}
 use Prim.Native.Nat.{ℕ, _+_, _-_, _≤_}
 use native.Mathlib.Omega.{arith}
-use lib.ListN.{length}
 use Rattle.write_fields.specs.Inked.{Inked}
 use Rattle.label_places.specs.Codes.{codes, codes-none, codes-more}
 use borrow.Author.Needs.{needs}
