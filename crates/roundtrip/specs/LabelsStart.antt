@@ -14,7 +14,7 @@ use lib.Seq.{drop-drop}
 use Rattle.rules.specs.Words.{if_then_else_}
 use Rattle.rules.specs.Ranges.{Range, inside}
 use Rattle.rules.specs.Fields as fields
-use Rattle.rules.specs.Fields.{Field, got, malformed, onField, byte, byteAt, digitsIn, digits, basisText, numberAt, basisAt, isEscaped, escape, allCharacters, isLabel, labelEnd, labelFrom, Chars, Place, spacedNumber, spacedLabel, spacedBasis}
+use Rattle.rules.specs.Fields.{Field, got, onField, byte, byteAt, digitsIn, digits, basisText, numberAt, basisAt, isEscaped, escape, allCharacters, isLabel, labelEnd, labelFrom, Chars, Place, spacedNumber, spacedLabel, spacedBasis}
 use Rattle.rules.specs.Lines as lines
 use Rattle.rules.specs.Lines.{Kind, number, basis, label, Letter, H, U, P, F, T, D, E, Fields, fieldsOf, byteOf, letterOf, fieldsAt, placesAt, seen, written, basisInside, ranged, labelled, Line, lineAt, lineText}
 use Rattle.rules.specs.Places as places
