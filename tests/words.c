@@ -8,7 +8,7 @@
 #include <string.h>
 
 uint64_t words_explain(const uint8_t *deck, size_t n, uint8_t *out, size_t bytes);
-uint64_t words_explain_number(uint64_t number, uint8_t *out, size_t bytes);
+uint64_t words_explain_number(size_t number, uint8_t *out, size_t bytes);
 
 enum { ENOUGH = 4096, PAST = 16, MOST = 1 << 20, FILL = 0xa5 };
 
@@ -51,7 +51,7 @@ static void put(size_t n) {
 int main(int arguments, char **argument) {
     size_t size;
     if (arguments > 1) {
-        for (uint64_t number = 1; number <= strtoull(argument[1], 0, 10); number++) {
+        for (size_t number = 1; number <= strtoull(argument[1], 0, 10); number++) {
             uint64_t n = words_explain_number(number, whole, ENOUGH);
             if (n >= ENOUGH || words_explain_number(number, part, n / 2) != n / 2) wrong("not as many bytes as fit");
             put(n);

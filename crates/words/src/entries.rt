@@ -2,12 +2,12 @@
 use crate::lines;
 use crate::lines::Entry;
 use crate::lines::Span;
-use crate::text::peek;
-use crate::text::put;
-use crate::text::put_byte;
-use crate::text::put_counted;
-use crate::text::put_label;
-use crate::text::put_part;
+use crate::lines::peek;
+use crate::table;
+use crate::text::Found;
+use crate::text::counted;
+use crate::text::named;
+use crate::text::said;
 
 // No deck that is read has as many lines.
 const MOST_LINES: usize = 8193;
@@ -114,187 +114,100 @@ fn line_of(s: &[u8], k: usize, class: u64, label: Span, exact: bool) -> usize {
     0
 }
 
-fn put_line_number(out: &mut [u8], at: usize, line: usize) -> usize {
-    put_counted(out, at, b"line ", line as u64)
-}
-
-fn put_span(out: &mut [u8], at: usize, s: &[u8], label: Span) -> usize {
-    put_label(out, at, s, label.from, label.upto)
-}
-
 // 4.
-fn put_full(out: &mut [u8], at: usize, letter: u8) -> usize {
+fn full(letter: u8) -> Found {
     match class_of(letter) {
-        3 => put(out, at, b"found: 32 deliveries stand above it\n"),
-        4 => put(out, at, b"found: 32 D lines stand above it\n"),
-        _ => put(out, at, b"found: 32 sources stand above it\n"),
+        3 => said(table::FULL_DELIVERIES),
+        4 => said(table::FULL_DIRECTS),
+        _ => said(table::FULL_SOURCES),
     }
 }
 
 // 5.
-fn put_used(out: &mut [u8], at: usize, s: &[u8], k: usize, e: Entry) -> usize {
+fn used(s: &[u8], k: usize, e: Entry) -> Found {
     let label = e.label;
-    let a = put(out, at, b"found: ");
-    let b = put_line_number(out, a, line_of(s, k, class_of(e.letter), label, true));
-    let c = put(out, b, b" has the label ");
-    let d = put_span(out, c, s, label);
-    put(out, d, b" already\n")
+    let line = line_of(s, k, class_of(e.letter), label, true);
+    named(table::USED, line as u64, label, label, label)
 }
 
 // 6.
-
-fn put_above(out: &mut [u8], at: usize, low: &[u8], least: u32, high: &[u8], most: u32) -> usize {
-    let a = put(out, at, b"found: the ");
-    let b = put_counted(out, a, low, wide(least));
-    let c = put(out, b, b" is above the ");
-    let d = put_counted(out, c, high, wide(most));
-    put_byte(out, d, b'\n')
+fn levels(e: Entry) -> Found {
+    let g = wide(e.numbers[0]);
+    let h = wide(e.numbers[1]);
+    let n = wide(e.numbers[2]);
+    let o = wide(e.numbers[3]);
+    let m = wide(e.numbers[4]);
+    let k = wide(e.numbers[5]);
+    if m < k {
+        return counted(table::START_ABOVE, k, m);
+    }
+    if o < m {
+        return counted(table::EMERGENCY_ABOVE, m, o);
+    }
+    if n < o {
+        return counted(table::OIL_ABOVE, o, n);
+    }
+    if g < n {
+        return counted(table::NORMAL_ABOVE, n, g);
+    }
+    counted(table::GENERATION_ABOVE, g, h)
 }
 
-fn put_levels(out: &mut [u8], at: usize, e: Entry) -> usize {
-    let x = e.numbers;
-    if x[4] < x[5] {
-        return put_above(out, at, b"start ", x[5], b"emergency low ", x[4]);
-    }
-    if x[3] < x[4] {
-        return put_above(out, at, b"emergency low ", x[4], b"oil point low ", x[3]);
-    }
-    if x[2] < x[3] {
-        return put_above(out, at, b"oil point low ", x[3], b"normal low ", x[2]);
-    }
-    if x[0] < x[2] {
-        return put_above(out, at, b"normal low ", x[2], b"generation ", x[0]);
-    }
-    put_above(out, at, b"generation ", x[0], b"high ", x[1])
-}
+// 7: the unit or the delivery that a D line names; no words where it is there.
 
-// 7.
-
-// The label of a line, for one that is not found.
-fn put_instead(out: &mut [u8], at: usize, s: &[u8], line: usize, words: &[u8]) -> usize {
+// A label that is not there, with the line of one that looks like it.
+fn like(s: &[u8], k: usize, class: u64, label: Span, none: usize, near: usize) -> Found {
+    let line = line_of(s, k, class, label, false);
+    if line == 0 {
+        return named(none, 0, label, label, label);
+    }
     let span = lines::line_at(s, line);
-    let e = lines::entry_at(s, span.from);
-    let a = put(out, at, b"; ");
-    let b = put_line_number(out, a, line);
-    let c = put(out, b, b" has ");
-    let its = e.label;
-    let d = put_span(out, c, s, its);
-    put(out, d, words)
+    let its = lines::entry_at(s, span.from);
+    let other = its.label;
+    named(near, line as u64, label, other, label)
 }
 
-// A source of this label that is no unit, or another label that looks like it.
-fn put_near(out: &mut [u8], at: usize, s: &[u8], k: usize, class: u64, label: Span) -> usize {
-    if class == 2 {
-        let source = line_of(s, k, 1, label, true);
-        if source != 0 {
-            return put_instead(out, at, s, source, b", which is no unit");
-        }
+fn no_unit(s: &[u8], k: usize, label: Span) -> Found {
+    if line_of(s, k, 2, label, true) != 0 {
+        return said(0);
     }
-    let like = line_of(s, k, class, label, false);
-    if like != 0 {
-        return put_instead(
-            out,
-            at,
-            s,
-            like,
-            b", which is another label: spaces and small letters count",
-        );
+    let line = line_of(s, k, 1, label, true);
+    if line != 0 {
+        return named(table::OTHER_SOURCE, line as u64, label, label, label);
     }
-    at
+    like(s, k, 2, label, table::NO_UNIT, table::UNIT_LIKE)
 }
 
-fn put_missing(
-    out: &mut [u8],
-    at: usize,
-    s: &[u8],
-    k: usize,
-    class: u64,
-    label: Span,
-    words: &[u8],
-) -> usize {
-    if line_of(s, k, class, label, true) != 0 {
-        return at;
+// Of line k, which starts at a place.
+pub fn no_delivery(s: &[u8], k: usize, from: usize) -> Found {
+    let e = lines::entry_at(s, from);
+    let label = e.other;
+    if line_of(s, k, 3, label, true) != 0 {
+        return said(0);
     }
-    let a = put(out, at, words);
-    let b = put_span(out, a, s, label);
-    let c = put_near(out, b, s, k, class, label);
-    put_byte(out, c, b'\n')
-}
-
-fn put_names(out: &mut [u8], at: usize, s: &[u8], k: usize, e: Entry) -> usize {
-    let unit = e.label;
-    let delivery = e.other;
-    let p = put_missing(out, at, s, k, 2, unit, b"found: no U line has the label ");
-    put_missing(
-        out,
-        p,
-        s,
-        k,
-        3,
-        delivery,
-        b"found: no T line has the label ",
-    )
+    like(s, k, 3, label, table::NO_DELIVERY, table::DELIVERY_LIKE)
 }
 
 // 8.
 
-fn put_basis(out: &mut [u8], at: usize, s: &[u8], from: usize) -> usize {
-    let basis = lines::basis_at(s, from);
-    put_part(out, at, s, basis.from, basis.upto)
-}
-
-fn put_other_basis(
-    out: &mut [u8],
-    at: usize,
-    s: &[u8],
-    from: usize,
-    line: usize,
-    before: usize,
-) -> usize {
-    let a = put_line_number(out, at, line);
-    let b = put(out, a, b" has the basis ");
-    let c = put_basis(out, b, s, before);
-    let d = put(out, c, b" for it, this line ");
-    put_basis(out, d, s, from)
-}
-
-fn put_not_below(out: &mut [u8], at: usize, s: &[u8], k: usize, from: usize, unit: Span) -> usize {
+fn high_basis(s: &[u8], k: usize, unit: Span, basis: Span) -> Found {
     let span = lines::line_at(s, line_of(s, k, 2, unit, true));
     let e = lines::entry_at(s, span.from);
-    let high = wide(e.numbers[1]);
-    let a = put(out, at, b"the basis ");
-    let b = put_basis(out, a, s, from);
-    put_counted(out, b, b" is not below its high ", high)
+    named(table::HIGH_BASIS, wide(e.numbers[1]), unit, basis, basis)
 }
 
-fn put_basis_fault(
-    out: &mut [u8],
-    at: usize,
-    s: &[u8],
-    k: usize,
-    from: usize,
-    unit: Span,
-) -> usize {
+fn bases(s: &[u8], k: usize, from: usize, unit: Span) -> Found {
+    let basis = lines::basis_at(s, from);
     let line = line_of(s, k, 4, unit, true);
     if line == 0 {
-        return put_not_below(out, at, s, k, from, unit);
+        return high_basis(s, k, unit, basis);
     }
-    let before = lines::line_at(s, line);
-    let first = lines::basis_at(s, before.from);
-    let its = lines::basis_at(s, from);
-    if lines::same_part(s, first, its) {
-        return put_not_below(out, at, s, k, from, unit);
+    let span = lines::line_at(s, line);
+    let first = lines::basis_at(s, span.from);
+    if lines::same_part(s, first, basis) {
+        return high_basis(s, k, unit, basis);
     }
-    put_other_basis(out, at, s, from, line, before.from)
-}
-
-fn put_bases(out: &mut [u8], at: usize, s: &[u8], k: usize, from: usize, e: Entry) -> usize {
-    let unit = e.label;
-    let a = put(out, at, b"found: unit ");
-    let b = put_span(out, a, s, unit);
-    let c = put(out, b, b": ");
-    let d = put_basis_fault(out, c, s, k, from, unit);
-    put_byte(out, d, b'\n')
+    named(table::OTHER_BASIS, line as u64, unit, first, basis)
 }
 
 // 9.
@@ -317,13 +230,10 @@ fn percents(s: &[u8], k: usize, unit: Span) -> u64 {
     sum
 }
 
-fn put_percents(out: &mut [u8], at: usize, s: &[u8], k: usize, e: Entry) -> usize {
+fn passed(s: &[u8], k: usize, e: Entry) -> Found {
     let unit = e.label;
     let total = plus(percents(s, k, unit), wide(e.numbers[1]));
-    let a = put(out, at, b"found: with this line the percents of unit ");
-    let b = put_span(out, a, s, unit);
-    let c = put_counted(out, b, b" come to ", total);
-    put_byte(out, c, b'\n')
+    named(table::PERCENTS, total, unit, unit, unit)
 }
 
 // 10.
@@ -351,30 +261,35 @@ fn sum_of(s: &[u8], class: u64) -> u64 {
     sum
 }
 
-pub fn put_sums(out: &mut [u8], at: usize, s: &[u8]) -> usize {
+pub fn sums(s: &[u8]) -> Found {
     let head = lines::entry_at(s, 0);
     let losses = wide(head.numbers[0]);
     let delivered = sum_of(s, 3);
     let generated = sum_of(s, 1);
-    let above = numbers::less(plus(losses, delivered), generated);
-    let a = put_counted(out, at, b"found: losses ", losses);
-    let b = put_counted(out, a, b" and deliveries ", delivered);
-    let c = put_counted(out, b, b" are ", above);
-    let d = put_counted(out, c, b" MWh above generation ", generated);
-    put_byte(out, d, b'\n')
+    Found {
+        words: table::SUMS,
+        one: losses,
+        two: delivered,
+        three: numbers::less(plus(losses, delivered), generated),
+        four: generated,
+        five: lines::nowhere(),
+        six: lines::nowhere(),
+        seven: lines::nowhere(),
+    }
 }
 
 // By the refusal's number, of line k, which starts at a place.
-pub fn put_words(out: &mut [u8], at: usize, s: &[u8], number: u64, k: usize, from: usize) -> usize {
+pub fn found(s: &[u8], number: usize, k: usize, from: usize) -> Found {
     let e = lines::entry_at(s, from);
+    let label = e.label;
     match number {
-        4 => put_full(out, at, e.letter),
-        5 => put_used(out, at, s, k, e),
-        6 => put_levels(out, at, e),
-        7 => put_names(out, at, s, k, e),
-        8 => put_bases(out, at, s, k, from, e),
-        9 => put_percents(out, at, s, k, e),
-        11 => put(out, at, b"found: no T line has a sequence of 1 to 99\n"),
-        _ => at,
+        4 => full(e.letter),
+        5 => used(s, k, e),
+        6 => levels(e),
+        7 => no_unit(s, k, label),
+        8 => bases(s, k, from, label),
+        9 => passed(s, k, e),
+        11 => said(table::UNPLACED),
+        _ => said(0),
     }
 }

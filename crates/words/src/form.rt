@@ -1,10 +1,10 @@
 // What was met on a line that is refused with 2. The line is gone through field by field as its letter wants, up to the first byte that does not fit.
 // What is said is of that byte, or of the line's letter, and so is never other than it stands.
 use crate::lines;
-use crate::text::peek;
-use crate::text::put;
-use crate::text::put_byte;
-use crate::text::put_number;
+use crate::lines::peek;
+use crate::table;
+use crate::text::Found;
+use crate::text::counted;
 use read_fields::LabelField;
 use read_fields::NumberField;
 
@@ -241,27 +241,7 @@ fn line_met(s: &[u8], from: usize) -> Met {
     end_met(s, at)
 }
 
-// Words of a byte.
-
-// `byte N`, counted from the line's start.
-fn put_place(out: &mut [u8], at: usize, from: usize, place: usize) -> usize {
-    let p = put(out, at, b"byte ");
-    if place < from {
-        return p;
-    }
-    let n = (place - from) as u64;
-    put_number(out, p, numbers::least(n, 8192) + 1)
-}
-
-fn put_after_place(out: &mut [u8], at: usize, from: usize, place: usize, words: &[u8]) -> usize {
-    let p = put_place(out, at, from, place);
-    put(out, p, words)
-}
-
-fn put_before_place(out: &mut [u8], at: usize, from: usize, place: usize, words: &[u8]) -> usize {
-    let p = put(out, at, words);
-    put_place(out, p, from, place)
-}
+// The byte, as a line of the table of what was found; its place counts from the line's start, from 1.
 
 // Whether a point or comma stands between two digits.
 fn splits_number(s: &[u8], at: usize) -> bool {
@@ -280,7 +260,7 @@ fn splits_number(s: &[u8], at: usize) -> bool {
     is_digit(peek(s, lines::after(s, at)))
 }
 
-// Whether nothing but spaces stands from a place to the line's end; a carriage return may close them.
+// Whether nothing but spaces stands from a place to another; a carriage return may close them.
 fn only_spaces(s: &[u8], from: usize, upto: usize) -> bool {
     let mut i = from;
     while i < upto {
@@ -303,110 +283,51 @@ fn is_strange(b: u8) -> bool {
     !read_fields::is_character(b)
 }
 
-fn put_strange(out: &mut [u8], at: usize, from: usize, place: usize, b: u8) -> usize {
+fn strange(b: u8) -> usize {
     if b == b'\r' {
-        return put_after_place(
-            out,
-            at,
-            from,
-            place,
-            b" is a carriage return (a Windows line end): lines end in LF alone",
-        );
+        return table::CARRIAGE_RETURN;
     }
     if b == b'\t' {
-        return put_after_place(out, at, from, place, b" is a tab");
+        return table::TAB;
     }
     if b < b' ' {
-        return put_after_place(out, at, from, place, b" is a control byte");
+        return table::CONTROL;
     }
-    put_after_place(
-        out,
-        at,
-        from,
-        place,
-        b" is an accented letter or another byte above 126",
-    )
+    table::HIGH_BYTE
 }
 
-fn put_space_due(out: &mut [u8], at: usize, s: &[u8], from: usize, place: usize) -> usize {
-    if splits_number(s, place) {
-        return put_after_place(
-            out,
-            at,
-            from,
-            place,
-            b" is a decimal point or a comma: numbers are whole, in digits alone",
-        );
+fn space_due(s: &[u8], at: usize) -> usize {
+    if splits_number(s, at) {
+        return table::POINT;
     }
-    if peek(s, place) == b'\n' {
-        return put(out, at, b"the line ends before all its fields");
+    if peek(s, at) == b'\n' {
+        return table::FEW_FIELDS;
     }
-    put_before_place(out, at, from, place, b"a space is due at ")
+    table::SPACE_DUE
 }
 
-fn put_number_due(out: &mut [u8], at: usize, s: &[u8], from: usize, place: usize) -> usize {
-    let b = peek(s, place);
-    if b == b'-' {
-        return put_after_place(out, at, from, place, b" is a sign: numbers have none");
+// After the space that stands before a field: the field that is due.
+fn field_due(s: &[u8], at: usize, due: usize) -> usize {
+    if only_spaces(s, at, lines::line_end(s, at)) {
+        return table::FIELD_MISSING;
     }
-    if b == b'+' {
-        return put_after_place(out, at, from, place, b" is a sign: numbers have none");
+    if peek(s, at) == b' ' {
+        return table::SECOND_SPACE;
     }
-    put_before_place(out, at, from, place, b"a number is due at ")
+    due
 }
 
-fn put_basis_due(out: &mut [u8], at: usize, s: &[u8], from: usize, place: usize) -> usize {
-    let b = peek(s, place);
-    if b == b'l' {
-        return put_after_place(out, at, from, place, b" is a small letter: the basis is L");
+fn number_due(b: u8) -> usize {
+    match b {
+        b'-' | b'+' => table::SIGN,
+        _ => table::NUMBER_DUE,
     }
-    if b == b'g' {
-        return put_after_place(out, at, from, place, b" is a small letter: the basis is G");
-    }
-    put_before_place(
-        out,
-        at,
-        from,
-        place,
-        b"a basis, L, G or a number, is due at ",
-    )
 }
 
-// After the space that stands before a field.
-fn put_field_due(
-    out: &mut [u8],
-    at: usize,
-    s: &[u8],
-    from: usize,
-    place: usize,
-    fault: Fault,
-) -> usize {
-    if only_spaces(s, place, lines::line_end(s, place)) {
-        return put(
-            out,
-            at,
-            b"a space stands at the line's end, and a field is missing",
-        );
-    }
-    if peek(s, place) == b' ' {
-        return put_after_place(
-            out,
-            at,
-            from,
-            place,
-            b" is a second space: fields are one space apart",
-        );
-    }
-    match fault {
-        Fault::Number => put_number_due(out, at, s, from, place),
-        Fault::Basis => put_basis_due(out, at, s, from, place),
-        _ => put_before_place(
-            out,
-            at,
-            from,
-            place,
-            b"a label between double quotes is due at ",
-        ),
+fn basis_due(b: u8) -> usize {
+    match b {
+        b'l' | b'g' => table::SMALL_BASIS,
+        _ => table::BASIS_DUE,
     }
 }
 
@@ -417,101 +338,81 @@ fn is_after_quote(s: &[u8], at: usize) -> bool {
     peek(s, at - 1) == b'"'
 }
 
-fn put_end_due(out: &mut [u8], at: usize, s: &[u8], from: usize, place: usize) -> usize {
-    if only_spaces(s, place, lines::line_end(s, place)) {
-        return put_after_place(out, at, from, place, b" is a space at the line's end");
+fn end_due(s: &[u8], at: usize) -> usize {
+    if only_spaces(s, at, lines::line_end(s, at)) {
+        return table::SPACE_LAST;
     }
-    if splits_number(s, place) {
-        return put_after_place(
-            out,
-            at,
-            from,
-            place,
-            b" is a decimal point or a comma: numbers are whole, in digits alone",
-        );
+    if splits_number(s, at) {
+        return table::POINT;
     }
-    let p = put_after_place(out, at, from, place, b" stands after the line's last field");
-    if peek(s, place) == b' ' {
-        return p;
+    if peek(s, at) == b' ' {
+        return table::PAST_FIELDS;
     }
-    if !is_after_quote(s, place) {
-        return p;
+    if is_after_quote(s, at) {
+        return table::PAST_LABEL;
     }
-    put(out, p, b" (a quote within a label is written \\\")")
+    table::PAST_FIELDS
 }
 
-fn put_fault(
-    out: &mut [u8],
-    at: usize,
-    s: &[u8],
-    from: usize,
-    place: usize,
-    fault: Fault,
-) -> usize {
+fn fault_words(s: &[u8], at: usize, fault: Fault) -> usize {
     match fault {
-        Fault::Nothing => put(out, at, b"the line is not of its form"),
-        Fault::Space => put_space_due(out, at, s, from, place),
-        Fault::Zero => put_before_place(out, at, from, place, b"a leading zero stands at "),
-        Fault::Unclosed => put_before_place(out, at, from, place, b"nothing closes the quote at "),
-        Fault::Escape => put_after_place(
-            out,
-            at,
-            from,
-            place,
-            b" is a backslash: in a label only \\\" and \\\\ may have one",
-        ),
-        Fault::Character => put_after_place(out, at, from, place, b" is no character of a label"),
-        Fault::Empty => put_before_place(
-            out,
-            at,
-            from,
-            place,
-            b"a label without characters stands at ",
-        ),
-        Fault::Long => put_before_place(
-            out,
-            at,
-            from,
-            place,
-            b"a label of more than 16 characters stands at ",
-        ),
-        Fault::LineEnd => put_end_due(out, at, s, from, place),
-        _ => put_field_due(out, at, s, from, place, fault),
+        Fault::Nothing => table::NOT_OF_FORM,
+        Fault::Space => space_due(s, at),
+        Fault::Number => field_due(s, at, number_due(peek(s, at))),
+        Fault::Zero => table::LEADING_ZERO,
+        Fault::Basis => field_due(s, at, basis_due(peek(s, at))),
+        Fault::Quote => field_due(s, at, table::LABEL_DUE),
+        Fault::Unclosed => table::UNCLOSED,
+        Fault::Escape => table::BACKSLASH,
+        Fault::Character => strange(peek(s, at)),
+        Fault::Empty => table::EMPTY_LABEL,
+        Fault::Long => table::LONG_LABEL,
+        Fault::LineEnd => end_due(s, at),
     }
 }
 
 // Where the deck ends within the line.
-fn put_cut_off(out: &mut [u8], at: usize, fault: Fault) -> usize {
+fn cut_off(fault: Fault) -> usize {
     match fault {
-        Fault::LineEnd => put(out, at, b"the last line does not end in LF"),
-        _ => put(out, at, b"the deck breaks off within this line"),
+        Fault::LineEnd => table::NO_LF,
+        _ => table::BREAKS_OFF,
     }
 }
 
-fn put_met(out: &mut [u8], at: usize, s: &[u8], from: usize, met: Met) -> usize {
-    let place = met.at;
+fn met_words(s: &[u8], met: Met) -> usize {
+    let at = met.at;
     let fault = met.fault;
-    if s.len() <= place {
-        return put_cut_off(out, at, fault);
+    if s.len() <= at {
+        return cut_off(fault);
     }
-    let b = peek(s, place);
+    let b = peek(s, at);
     if is_strange(b) {
-        return put_strange(out, at, from, place, b);
+        return strange(b);
     }
-    put_fault(out, at, s, from, place, fault)
+    fault_words(s, at, fault)
 }
 
-// Words of a line's letter.
+// The line's letter.
 
-// Where lines of a letter stand among the others; 0 for what is no letter.
-fn turn(letter: u8) -> u64 {
+// Its place among the letters, from 1; 0 for what is none.
+pub fn letter_place(letter: u8) -> usize {
     match letter {
         b'H' => 1,
-        b'U' | b'P' | b'F' => 2,
-        b'T' => 3,
-        b'D' => 4,
-        b'E' => 5,
+        b'U' => 2,
+        b'P' => 3,
+        b'F' => 4,
+        b'T' => 5,
+        b'D' => 6,
+        b'E' => 7,
         _ => 0,
+    }
+}
+
+// Where lines of a letter stand among the others.
+fn turn(letter: u8) -> usize {
+    match letter {
+        b'P' | b'F' => 2,
+        _ => letter_place(letter),
     }
 }
 
@@ -523,126 +424,73 @@ fn is_small_letter(b: u8) -> bool {
 }
 
 fn has_order_mark(s: &[u8]) -> bool {
-    if s.len() < 3 {
+    if peek(s, 0) != 239 {
         return false;
     }
-    if s[0] != 239 {
+    if peek(s, 1) != 187 {
         return false;
     }
-    if s[1] != 187 {
-        return false;
-    }
-    s[2] == 191
+    peek(s, 2) == 191
 }
 
 // Of a line that begins with none of the letters.
-fn put_no_letter(out: &mut [u8], at: usize, s: &[u8], from: usize) -> usize {
-    let b = peek(s, from);
+fn no_letter(b: u8) -> usize {
     if b == b'\n' {
-        return put(out, at, b"the line is empty");
+        return table::EMPTY_LINE;
     }
     if b == b' ' {
-        return put(out, at, b"the line begins with a space");
+        return table::SPACE_FIRST;
     }
     if is_small_letter(b) {
-        return put(
-            out,
-            at,
-            b"the line's letter is a small one: it is written H, U, P, F, T, D or E",
-        );
+        return table::SMALL_LETTER;
     }
     if is_strange(b) {
-        return put_strange(out, at, from, from, b);
+        return strange(b);
     }
-    put(
-        out,
-        at,
-        b"no line begins so: its letter is H, U, P, F, T, D or E",
-    )
+    table::NO_LETTER
 }
 
-// Of a line whose letter has its turn before the letter of the line above.
-fn put_order(out: &mut [u8], at: usize, letter: u8) -> usize {
-    match letter {
-        b'H' => put(
-            out,
-            at,
-            b"a second H line stands there: a deck has one hour",
-        ),
-        b'T' => put(
-            out,
-            at,
-            b"a T line stands after a D line: all T lines come before the first D line",
-        ),
-        _ => put(
-            out,
-            at,
-            b"a source stands after a T or D line: all sources come before the first T line",
-        ),
+// Of a line whose letter has no turn after the letter of the line above; 0 where it has.
+fn out_of_order(letter: u8, above: u8) -> usize {
+    if above == 0 {
+        if letter != b'H' {
+            return table::NO_HEAD;
+        }
+        return 0;
     }
-}
-
-fn is_out_of_order(letter: u8, above: u8) -> bool {
     if letter == b'H' {
-        return true;
+        return table::SECOND_HEAD;
     }
-    turn(letter) < turn(above)
+    if turn(above) <= turn(letter) {
+        return 0;
+    }
+    if letter == b'T' {
+        return table::LATE_DELIVERY;
+    }
+    table::LATE_SOURCE
 }
 
-// What was met on line k, which starts at a place; the letter of the line above it.
-fn put_found(out: &mut [u8], at: usize, s: &[u8], k: usize, from: usize, above: u8) -> usize {
+// What the line at a place is before its fields are looked at, after a line of this letter; 0 where its letter has its turn.
+fn letter_words(s: &[u8], from: usize, above: u8) -> usize {
     if s.len() == 0 {
-        return put(out, at, b"the deck is empty");
+        return table::EMPTY_DECK;
     }
     if s.len() <= from {
-        return put(out, at, b"the deck ends before its E line: it is cut off");
+        return table::NO_END;
     }
     if above == b'E' {
-        return put(
-            out,
-            at,
-            b"something stands after the E line, be it an empty line",
-        );
+        return table::AFTER_END;
     }
-    if k == 1 {
+    if above == 0 {
         if has_order_mark(s) {
-            return put(
-                out,
-                at,
-                b"the deck begins with a byte order mark (bytes EF BB BF): save it without one",
-            );
+            return table::ORDER_MARK;
         }
     }
     let letter = peek(s, from);
-    if turn(letter) == 0 {
-        return put_no_letter(out, at, s, from);
+    if letter_place(letter) == 0 {
+        return no_letter(letter);
     }
-    if k == 1 {
-        if letter != b'H' {
-            return put(out, at, b"the first line is not the H line");
-        }
-    } else if is_out_of_order(letter, above) {
-        return put_order(out, at, letter);
-    }
-    put_met(out, at, s, from, line_met(s, from))
-}
-
-// The form that a letter wants.
-fn put_form(out: &mut [u8], at: usize, letter: u8) -> usize {
-    match letter {
-        b'H' => put(out, at, b"its form: H losses\n"),
-        b'U' => put(out, at, b"its form: U g h n o e k A B C R \"label\"\n"),
-        b'P' => put(out, at, b"its form: P g rate \"label\"\n"),
-        b'F' => put(out, at, b"its form: F g \"label\"\n"),
-        b'T' => put(out, at, b"its form: T sequence type block MWh \"label\"\n"),
-        b'D' => put(
-            out,
-            at,
-            b"its form: D basis percent \"unit\" \"delivery\"\n",
-        ),
-        b'E' => put(out, at, b"its form: E\n"),
-        _ => at,
-    }
+    out_of_order(letter, above)
 }
 
 // The letter of the line above line k; 0 for the first.
@@ -654,9 +502,20 @@ fn letter_above(s: &[u8], k: usize) -> u8 {
     peek(s, above.from)
 }
 
-pub fn put_words(out: &mut [u8], at: usize, s: &[u8], k: usize, from: usize) -> usize {
-    let p = put(out, at, b"found: ");
-    let q = put_found(out, p, s, k, from, letter_above(s, k));
-    let r = put_byte(out, q, b'\n');
-    put_form(out, r, peek(s, from))
+// A place in a line, from 1.
+fn byte_number(from: usize, at: usize) -> u64 {
+    if at < from {
+        return 0;
+    }
+    numbers::least((at - from) as u64, 8192) + 1
+}
+
+// What was met on line k, which starts at a place.
+pub fn found(s: &[u8], k: usize, from: usize) -> Found {
+    let words = letter_words(s, from, letter_above(s, k));
+    if words != 0 {
+        return counted(words, 1, 0);
+    }
+    let met = line_met(s, from);
+    counted(met_words(s, met), byte_number(from, met.at), 0)
 }

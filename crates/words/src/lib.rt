@@ -8,71 +8,172 @@ mod shortage;
 mod table;
 mod text;
 
+use deck::Place;
 use deck::ScannedDeck;
+use lines::Span;
+use rules::Key;
 use rules::Refusal;
 use rules::Verdict;
-use text::put;
+use text::Found;
+use text::counted;
 use text::put_byte;
-use text::put_counted;
+use text::put_part;
+use text::said;
 ghost use mathlib.Core.Path.{_≡_};
 ghost use mathlib.Core.Bool.{true};
 ghost use Prim.Native.Nat.{_≤_};
 ghost use lib.ListN.{length};
 ghost use Rattle.rules.specs.Writing.{valid};
 
-// Where a refusal is: of the deck, of a line, or of a group by its internal number.
-fn put_where(out: &mut [u8], at: usize, number: u64, place: usize) -> usize {
+// The most bytes of a line that are shown.
+const MOST_SHOWN: usize = 80;
+
+// One piece of what the words stand between.
+fn put_piece(out: &mut [u8], at: usize, piece: usize) -> usize {
+    table::put_frame(out, at, said(piece))
+}
+
+fn head_words(number: usize, place: usize) -> usize {
     if place == 0 {
-        return at;
+        return table::REFUSED;
     }
     if number < 12 {
-        return put_counted(out, at, b", line ", place as u64);
+        return table::REFUSED_LINE;
     }
-    put_counted(out, at, b", group ", place as u64)
+    table::REFUSED_GROUP
 }
 
 // The first line: number, place, and what is wrong.
-fn put_head(out: &mut [u8], at: usize, number: u64, place: usize) -> usize {
-    let a = put_counted(out, at, b"refused ", number);
-    let b = put_where(out, a, number, place);
-    let c = put(out, b, b": ");
-    let d = table::put_when(out, c, number);
-    put_byte(out, d, b'\n')
+fn put_head(out: &mut [u8], at: usize, number: usize, place: usize) -> usize {
+    let x = counted(head_words(number, place), number as u64, place as u64);
+    let p = table::put_frame(out, at, x);
+    let q = table::put_when(out, p, number);
+    put_byte(out, q, b'\n')
 }
 
 // The last line: what to do.
-fn put_tail(out: &mut [u8], at: usize, number: u64) -> usize {
-    let a = put(out, at, b"what to do: ");
-    let b = table::put_advice(out, a, number);
-    put_byte(out, b, b'\n')
+fn put_tail(out: &mut [u8], at: usize, number: usize) -> usize {
+    let p = put_piece(out, at, table::ADVICE);
+    let q = table::put_advice(out, p, number);
+    put_byte(out, q, b'\n')
 }
 
-// What was found on line k.
-fn put_found(out: &mut [u8], at: usize, s: &[u8], number: u64, k: usize) -> usize {
+// What was found, where there are words for it.
+fn put_found(out: &mut [u8], at: usize, s: &[u8], x: Found) -> usize {
+    if x.words == 0 {
+        return at;
+    }
+    let p = put_piece(out, at, table::FOUND);
+    let q = table::put_found(out, p, s, x);
+    put_byte(out, q, b'\n')
+}
+
+// The bytes of a line, a long one cut.
+fn put_bytes(out: &mut [u8], at: usize, s: &[u8], from: usize, upto: usize) -> usize {
+    if upto <= from {
+        return put_piece(out, at, table::EMPTY);
+    }
+    if upto - from <= MOST_SHOWN {
+        return put_part(out, at, s, from, upto);
+    }
+    let p = put_part(out, at, s, from, from + MOST_SHOWN);
+    put_piece(out, p, table::CUT)
+}
+
+// A line of the deck; nothing where the deck ends before it.
+fn put_line(out: &mut [u8], at: usize, s: &[u8], line: Span) -> usize {
+    if s.len() <= line.from {
+        return at;
+    }
+    let p = put_piece(out, at, table::THE_LINE);
+    let q = put_bytes(out, p, s, line.from, line.upto);
+    put_byte(out, q, b'\n')
+}
+
+// The form of the line at a place, where its letter has one.
+fn put_form(out: &mut [u8], at: usize, s: &[u8], from: usize) -> usize {
+    let letter = form::letter_place(lines::peek(s, from));
+    if letter == 0 {
+        return at;
+    }
+    let p = table::put_form(out, at, letter);
+    put_byte(out, p, b'\n')
+}
+
+// What was found on line k, which starts at a place.
+fn line_found(s: &[u8], number: usize, k: usize, from: usize) -> Found {
+    match number {
+        2 => form::found(s, k, from),
+        3 => outside::found(lines::entry_at(s, from)),
+        _ => entries::found(s, number, k, from),
+    }
+}
+
+// What more there is to say of it.
+fn put_more(out: &mut [u8], at: usize, s: &[u8], number: usize, k: usize, from: usize) -> usize {
+    if number == 2 {
+        return put_form(out, at, s, from);
+    }
+    if number == 7 {
+        return put_found(out, at, s, entries::no_delivery(s, k, from));
+    }
+    at
+}
+
+fn put_refused_line(out: &mut [u8], at: usize, s: &[u8], number: usize, k: usize) -> usize {
     let line = lines::line_at(s, k);
     let from = line.from;
-    let p = text::put_line(out, at, s, from, line.upto);
-    match number {
-        2 => form::put_words(out, p, s, k, from),
-        3 => outside::put_words(out, p, lines::entry_at(s, from)),
-        _ => entries::put_words(out, p, s, number, k, from),
+    let p = put_line(out, at, s, line);
+    let q = put_found(out, p, s, line_found(s, number, k, from));
+    put_more(out, q, s, number, k, from)
+}
+
+// What was found in a deck that is refused where it is read.
+fn put_reading(out: &mut [u8], at: usize, s: &[u8], number: usize, place: usize) -> usize {
+    if number == 10 {
+        return put_found(out, at, s, entries::sums(s));
+    }
+    if place == 0 {
+        return at;
+    }
+    put_refused_line(out, at, s, number, place)
+}
+
+fn number_of(r: Refusal) -> usize {
+    refusals::number_of(r) as usize
+}
+
+fn put_refused(out: &mut [u8], s: &[u8], r: Refusal) -> usize {
+    let number = number_of(r);
+    let place = refusals::place_of(r);
+    let p = put_head(out, 0, number, place);
+    let q = put_reading(out, p, s, number, place);
+    put_tail(out, q, number)
+}
+
+fn group_of(r: Refusal) -> u32 {
+    match r {
+        Refusal::NoRoom(x) => x.0,
+        Refusal::NoHeadroom(x) => x.0,
+        _ => 0,
     }
 }
 
-// A deck that is refused where it is read.
-fn put_refused(out: &mut [u8], s: &[u8], r: Refusal) -> usize {
-    let number = refusals::number_of(r);
-    let place = refusals::place_of(r);
-    let p = put_head(out, 0, number, place);
-    if number == 10 {
-        let q = entries::put_sums(out, p, s);
-        return put_tail(out, q, number);
-    }
-    if place == 0 {
-        return put_tail(out, p, number);
-    }
-    let q = put_found(out, p, s, number, place);
-    put_tail(out, q, number)
+// How many MWh a group is short of, and its deliveries.
+fn put_short(
+    out: &mut [u8],
+    at: usize,
+    s: &[u8],
+    places: [Place; 32],
+    keys: [Key; 32],
+    m: usize,
+    group: u32,
+    short: u64,
+) -> usize {
+    let p = put_piece(out, at, table::FOUND);
+    let q = table::put_found(out, p, s, counted(table::SHORT, short, 0));
+    let r = shortage::put_labels(out, q, s, places, keys, m, group);
+    put_byte(out, r, b'\n')
 }
 
 // A deck whose hour is reconstructed: nothing, or the group that is refused.
@@ -93,21 +194,13 @@ fn put_hour(out: &mut [u8], s: &[u8], x: ScannedDeck) -> usize
         return 0;
     };
     let states = end.states;
-    let number = refusals::number_of(r);
+    let number = number_of(r);
     let group = group_of(r);
     let short = shortage::short_of(keys, m, group, &mwhs, &kept, states, h.nsources);
     let p = put_head(out, 0, number, refusals::place_of(r));
     let places = x.deliveries;
-    let q = shortage::put_words(out, p, s, places, keys, m, group, short);
+    let q = put_short(out, p, s, places, keys, m, group, short);
     put_tail(out, q, number)
-}
-
-fn group_of(r: Refusal) -> u32 {
-    match r {
-        Refusal::NoRoom(x) => x.0,
-        Refusal::NoHeadroom(x) => x.0,
-        _ => 0,
-    }
 }
 
 fn put_deck(out: &mut [u8], s: &[u8]) -> usize {
@@ -142,7 +235,7 @@ pub fn explain(s: &[u8], out: &mut [u8]) -> usize
 }
 
 // The words of a refusal by its number alone: for a deck that is not at hand.
-pub fn explain_number(number: u64, out: &mut [u8]) -> usize
+pub fn explain_number(number: usize, out: &mut [u8]) -> usize
     ensures { λ r. ⌜ r ≤ length (now (out .entry)) ⌝ }
 {
     let room = out.len();
@@ -159,6 +252,6 @@ pub extern "C" fn words_explain(s: &[u8], out: &mut [u8]) -> u64 {
 }
 
 #[no_mangle]
-pub extern "C" fn words_explain_number(number: u64, out: &mut [u8]) -> u64 {
+pub extern "C" fn words_explain_number(number: usize, out: &mut [u8]) -> u64 {
     explain_number(number, out) as u64
 }

@@ -1,5 +1,4 @@
 // Where a deck's lines stand, and what a line of its form says: its letter, its numbers and its labels.
-use crate::text::peek;
 use read_fields::BasisField;
 use read_lines::DeliveryLine;
 use read_lines::DirectLine;
@@ -21,6 +20,14 @@ pub struct Entry {
     pub numbers: [u32; 10],
     pub label: Span,
     pub other: Span,
+}
+
+// The byte at a place; past the end a 0.
+pub fn peek(s: &[u8], at: usize) -> u8 {
+    if s.len() <= at {
+        return 0;
+    }
+    s[at]
 }
 
 // The place after a byte of the deck.
@@ -54,7 +61,11 @@ fn line_start(s: &[u8], k: usize) -> usize {
     at
 }
 
+// Line k without its LF; there is no line 0.
 pub fn line_at(s: &[u8], k: usize) -> Span {
+    if k == 0 {
+        return nowhere();
+    }
     let from = line_start(s, k);
     Span {
         from: from,
@@ -62,7 +73,7 @@ pub fn line_at(s: &[u8], k: usize) -> Span {
     }
 }
 
-fn nowhere() -> Span {
+pub fn nowhere() -> Span {
     Span { from: 0, upto: 0 }
 }
 

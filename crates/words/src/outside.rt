@@ -1,12 +1,10 @@
-// Which number of a line is outside its range (3): the ranges of document 01 and the fields' names, by a line's letter.
+// Which number of a line is outside its range (3): the ranges of document 01 by a line's letter.
+ghost use Prim.Native.Nat.{_≤_};
 use crate::lines::Entry;
-use crate::text::put;
-use crate::text::put_byte;
-use crate::text::put_counted;
-use crate::text::put_number;
-
-// Numbers are read up to this one alone.
-const CUT: u64 = 1_000_000;
+use crate::table;
+use crate::text::Found;
+use crate::text::counted;
+use crate::text::said;
 
 // The least and the most that number k of a line may be, counted from 0.
 struct Range {
@@ -101,50 +99,17 @@ fn count(letter: u8) -> usize {
     }
 }
 
-fn put_unit_name(out: &mut [u8], at: usize, k: usize) -> usize {
-    match k {
-        0 => put(out, at, b"g, the generation: "),
-        1 => put(out, at, b"h, the high: "),
-        2 => put(out, at, b"n, the normal low: "),
-        3 => put(out, at, b"o, the oil point low: "),
-        4 => put(out, at, b"e, the emergency low: "),
-        5 => put(out, at, b"k, the curve's start: "),
-        6 => put(out, at, b"A: "),
-        7 => put(out, at, b"B: "),
-        8 => put(out, at, b"C: "),
-        _ => put(out, at, b"R: "),
-    }
-}
-
-fn put_delivery_name(out: &mut [u8], at: usize, k: usize) -> usize {
-    match k {
-        0 => put(out, at, b"the sequence: "),
-        1 => put(out, at, b"the type: "),
-        2 => put(out, at, b"the block: "),
-        _ => put(out, at, b"the MWh: "),
-    }
-}
-
-fn put_direct_name(out: &mut [u8], at: usize, k: usize) -> usize {
-    if k == 0 {
-        return put(out, at, b"the basis: ");
-    }
-    put(out, at, b"the percent: ")
-}
-
-fn put_name(out: &mut [u8], at: usize, letter: u8, k: usize) -> usize {
+// The words for a letter's first number.
+fn first_words(letter: u8) -> usize
+    ensures { λ r. ⌜ r ≤ 100 ⌝ }
+{
     match letter {
-        b'U' => put_unit_name(out, at, k),
-        b'T' => put_delivery_name(out, at, k),
-        b'D' => put_direct_name(out, at, k),
-        b'H' => put(out, at, b"the losses: "),
-        b'P' => {
-            if k == 1 {
-                return put(out, at, b"the rate: ");
-            }
-            put(out, at, b"g: ")
-        }
-        _ => put(out, at, b"g: "),
+        b'H' => table::OUTSIDE,
+        b'U' => table::OUTSIDE + 1,
+        b'P' => table::OUTSIDE + 11,
+        b'F' => table::OUTSIDE + 13,
+        b'T' => table::OUTSIDE + 14,
+        _ => table::OUTSIDE + 18,
     }
 }
 
@@ -171,29 +136,12 @@ fn first_outside(e: Entry) -> usize {
     10
 }
 
-// A number that may have been cut.
-fn put_value(out: &mut [u8], at: usize, x: u64) -> usize {
-    if x < CUT {
-        return put_number(out, at, x);
-    }
-    put(out, at, b"above 999999")
-}
-
-fn put_outside(out: &mut [u8], at: usize, letter: u8, k: usize, x: u64) -> usize {
-    let r = range_of(letter, k);
-    let a = put(out, at, b"found: ");
-    let b = put_name(out, a, letter, k);
-    let c = put_value(out, b, x);
-    let d = put_counted(out, c, b" is not within ", r.least as u64);
-    let e = put_counted(out, d, b" to ", r.most as u64);
-    put_byte(out, e, b'\n')
-}
-
-pub fn put_words(out: &mut [u8], at: usize, e: Entry) -> usize {
+pub fn found(e: Entry) -> Found {
     let k = first_outside(e);
     if 9 < k {
-        return at;
+        return said(0);
     }
-    let x = e.numbers[k];
-    put_outside(out, at, e.letter, k, x as u64)
+    let r = range_of(e.letter, k);
+    let words = first_words(e.letter) + k;
+    counted(words, r.least as u64, r.most as u64)
 }

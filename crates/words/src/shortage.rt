@@ -1,10 +1,8 @@
 // Of an hour whose reconstruction refuses a group (12, 13): how many MWh are short, and the group's deliveries.
 // For 12 that is the remainder less the room of all units and purchases down to the last step's floors; for 13 what is to be raised less the headroom.
 use crate::entries::plus;
-use crate::text::put;
 use crate::text::put_byte;
-use crate::text::put_counted;
-use crate::text::put_label;
+use crate::text::put_part;
 use deck::Place;
 use rules::Key;
 use rules::Plant;
@@ -122,17 +120,19 @@ fn room_in(states: [Running; 32], n: usize, up: bool) -> u64 {
     sum
 }
 
-// A label after a space, for one of the group's deliveries.
+// A label between quotes after a space, for one of the group's deliveries.
 fn put_member(out: &mut [u8], at: usize, s: &[u8], place: Place, is: bool) -> usize {
     if !is {
         return at;
     }
     let p = put_byte(out, at, b' ');
-    put_label(out, p, s, place.from, place.upto)
+    let q = put_byte(out, p, b'"');
+    let r = put_part(out, q, s, place.from, place.upto);
+    put_byte(out, r, b'"')
 }
 
 // For each of them.
-fn put_labels(
+pub fn put_labels(
     out: &mut [u8],
     at: usize,
     s: &[u8],
@@ -167,20 +167,4 @@ pub fn short_of(
     let total = total_of(keys, m, group, mwhs);
     let room = room_in(states, n, total < took);
     numbers::less(numbers::distance(total, took), room)
-}
-
-pub fn put_words(
-    out: &mut [u8],
-    at: usize,
-    s: &[u8],
-    places: [Place; 32],
-    keys: [Key; 32],
-    m: usize,
-    group: u32,
-    short: u64,
-) -> usize {
-    let a = put_counted(out, at, b"found: ", short);
-    let b = put(out, a, b" MWh short for the deliveries");
-    let c = put_labels(out, b, s, places, keys, m, group);
-    put_byte(out, c, b'\n')
 }

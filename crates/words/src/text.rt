@@ -1,14 +1,70 @@
 // Text put into lent bytes as far as they go: each function is handed the place reached and gives the place after what it put.
+use crate::lines;
+use crate::lines::Span;
+use crate::lines::peek;
 
-// The most bytes of a line that are shown.
-const MOST_SHOWN: usize = 80;
+// A line of a table of words, from 1, and what stands for its marks: numbers for %1 to %4, parts of the deck for %5 to %7. 0 is no line.
+pub struct Found {
+    pub words: usize,
+    pub one: u64,
+    pub two: u64,
+    pub three: u64,
+    pub four: u64,
+    pub five: Span,
+    pub six: Span,
+    pub seven: Span,
+}
 
-// The byte at a place; past the end a 0.
-pub fn peek(s: &[u8], at: usize) -> u8 {
-    if s.len() <= at {
-        return 0;
+// Words with two numbers.
+pub fn counted(words: usize, one: u64, two: u64) -> Found {
+    Found {
+        words,
+        one,
+        two,
+        three: 0,
+        four: 0,
+        five: lines::nowhere(),
+        six: lines::nowhere(),
+        seven: lines::nowhere(),
     }
-    s[at]
+}
+
+// Words that have no marks.
+pub fn said(words: usize) -> Found {
+    counted(words, 0, 0)
+}
+
+// Words with a number and parts of the deck.
+pub fn named(words: usize, one: u64, five: Span, six: Span, seven: Span) -> Found {
+    Found {
+        words,
+        one,
+        two: 0,
+        three: 0,
+        four: 0,
+        five,
+        six,
+        seven,
+    }
+}
+
+fn number_of(x: Found, mark: u8) -> u64 {
+    match mark {
+        b'1' => x.one,
+        b'2' => x.two,
+        b'3' => x.three,
+        _ => x.four,
+    }
+}
+
+fn part_of(x: Found, mark: u8) -> Span {
+    if mark == b'5' {
+        return x.five;
+    }
+    if mark == b'6' {
+        return x.six;
+    }
+    x.seven
 }
 
 // One byte, where there is room for it.
@@ -18,16 +74,6 @@ pub fn put_byte(out: &mut [u8], at: usize, b: u8) -> usize {
     }
     out[at] = b;
     at + 1
-}
-
-pub fn put(out: &mut [u8], at: usize, text: &[u8]) -> usize {
-    let mut p = at;
-    let mut i: usize = 0;
-    while i < text.len() {
-        p = put_byte(out, p, text[i]);
-        i += 1;
-    }
-    p
 }
 
 fn digit(d: u64) -> u8 {
@@ -58,7 +104,7 @@ fn put_digit(out: &mut [u8], at: usize, x: u64, unit: u64) -> usize {
     put_byte(out, at, digit(x / unit % 10))
 }
 
-pub fn put_number(out: &mut [u8], at: usize, x: u64) -> usize {
+fn put_number(out: &mut [u8], at: usize, x: u64) -> usize {
     let mut p = at;
     let mut unit: u64 = 10_000_000_000_000_000_000;
     while 0 < unit {
@@ -66,12 +112,6 @@ pub fn put_number(out: &mut [u8], at: usize, x: u64) -> usize {
         unit = unit / 10;
     }
     p
-}
-
-// Words, and a number after them.
-pub fn put_counted(out: &mut [u8], at: usize, words: &[u8], x: u64) -> usize {
-    let p = put(out, at, words);
-    put_number(out, p, x)
 }
 
 // A byte as it is shown: one outside of 32 to 126 is a question mark.
@@ -93,26 +133,37 @@ pub fn put_part(out: &mut [u8], at: usize, s: &[u8], from: usize, upto: usize) -
     p
 }
 
-// The same between quotes.
-pub fn put_label(out: &mut [u8], at: usize, s: &[u8], from: usize, upto: usize) -> usize {
-    let p = put_byte(out, at, b'"');
-    let q = put_part(out, p, s, from, upto);
-    put_byte(out, q, b'"')
+fn put_mark(out: &mut [u8], at: usize, s: &[u8], mark: u8, x: Found) -> usize {
+    if mark < b'5' {
+        return put_number(out, at, number_of(x, mark));
+    }
+    let part = part_of(x, mark);
+    put_part(out, at, s, part.from, part.upto)
 }
 
-// A line of the deck, a long one cut; nothing where the deck ends before it.
-pub fn put_line(out: &mut [u8], at: usize, s: &[u8], from: usize, upto: usize) -> usize {
-    if s.len() <= from {
+// One byte of words: of a mark the first is passed over, and the second tells what stands for it.
+fn put_next(out: &mut [u8], at: usize, s: &[u8], marked: bool, b: u8, x: Found) -> usize {
+    if marked {
+        return put_mark(out, at, s, b, x);
+    }
+    if b == b'%' {
         return at;
     }
-    let p = put(out, at, b"the line: ");
-    if upto <= from {
-        return put(out, p, b"(empty)\n");
+    put_byte(out, at, b)
+}
+
+// A line of a table of words, about a deck.
+pub fn put_words(out: &mut [u8], at: usize, s: &[u8], table: &[u8], x: Found) -> usize {
+    let line = lines::line_at(table, x.words);
+    let upto = line.upto;
+    let mut p = at;
+    let mut marked = false;
+    let mut i = line.from;
+    while i < upto {
+        let b = peek(table, i);
+        p = put_next(out, p, s, marked, b, x);
+        marked = b == b'%';
+        i += 1;
     }
-    if upto - from <= MOST_SHOWN {
-        let q = put_part(out, p, s, from, upto);
-        return put_byte(out, q, b'\n');
-    }
-    let q = put_part(out, p, s, from, from + MOST_SHOWN);
-    put(out, q, b" ..\n")
+    p
 }

@@ -49,8 +49,8 @@ place-of-requires c κs = search needs
 put-head-requires : tie.Need-put-head-requires
 put-head-requires c κs = search needs
 
-put-words-requires : tie.Need-put-words-requires
-put-words-requires c κs = search needs
+put-short-requires : tie.Need-put-short-requires
+put-short-requires c κs = search needs
 
 put-tail-requires : tie.Need-put-tail-requires
 put-tail-requires c κs = search needs
@@ -76,7 +76,7 @@ put-hour-spec =
     short-of-requires
     place-of-requires
     put-head-requires
-    put-words-requires
+    put-short-requires
     put-tail-requires
     same-length
     returns-2)
