@@ -27,21 +27,21 @@ extern "C" {
    tells 1 to 11, and so does every call that reads the deck but barleyhood_report and the two for one label; barleyhood_labels goes
    on with 14, the reconstructions with 14, then 12 or 13. 15 is of hour records, which no call here takes. */
 enum {
-    BARLEYHOOD_TOO_LONG = 1,     /* deck over 8,192 bytes: 0 */
-    BARLEYHOOD_FORM = 2,         /* line not of its form or out of order, LF or E missing (empty deck: line 1): line */
-    BARLEYHOOD_RANGE = 3,        /* number outside its range: line */
-    BARLEYHOOD_FULL = 4,         /* thirty-third of its class: line */
-    BARLEYHOOD_USED = 5,         /* label already used in its class: line */
-    BARLEYHOOD_LEVELS = 6,       /* unit's six levels out of order: line */
-    BARLEYHOOD_NAMES = 7,        /* D names no unit, or no delivery: line */
-    BARLEYHOOD_OTHER_BASIS = 8,  /* basis not that of the unit's earlier D line, or a number not below h: line */
-    BARLEYHOOD_PERCENTS = 9,     /* unit's percents pass 100: line */
-    BARLEYHOOD_OVERDRAWN = 10,   /* losses + deliveries above generation: 0 */
-    BARLEYHOOD_UNPLACED = 11,    /* sequence 0 and no delivery to place it by, the first such T line: line */
-    BARLEYHOOD_NO_ROOM = 12,     /* last-step floors leave too little room: group */
-    BARLEYHOOD_NO_HEADROOM = 13, /* too little headroom for a credit: group */
-    BARLEYHOOD_SHORT = 14,       /* lent buffer too short: 0 */
-    BARLEYHOOD_NO_DECK = 15      /* hour record that no deck gives: 0 */
+    BARLEYHOOD_TOO_LONG = 1,     /* the deck has more than 8,192 bytes: 0 */
+    BARLEYHOOD_FORM = 2,         /* a line is not of its form or out of order, or LF or E is missing: line */
+    BARLEYHOOD_RANGE = 3,        /* a number is outside its range: line */
+    BARLEYHOOD_FULL = 4,         /* the thirty-third source, delivery or D line: line */
+    BARLEYHOOD_USED = 5,         /* a label is already used in its class: line */
+    BARLEYHOOD_LEVELS = 6,       /* a unit's levels are not start <= emergency <= oil <= normal low <= generation <= high: line */
+    BARLEYHOOD_NAMES = 7,        /* a D line names no unit, or no delivery: line */
+    BARLEYHOOD_OTHER_BASIS = 8,  /* a D line has another basis than the unit's earlier ones, or a number not below its high: line */
+    BARLEYHOOD_PERCENTS = 9,     /* a unit's percents pass 100: line */
+    BARLEYHOOD_OVERDRAWN = 10,   /* losses and deliveries are above generation: 0 */
+    BARLEYHOOD_UNPLACED = 11,    /* sequence 0, and no delivery to place it by: line */
+    BARLEYHOOD_NO_ROOM = 12,     /* the sources have too little room for a group: group */
+    BARLEYHOOD_NO_HEADROOM = 13, /* too little headroom for a group's credit: group */
+    BARLEYHOOD_SHORT = 14,       /* the lent buffer is too short (calls only): 0 */
+    BARLEYHOOD_NO_DECK = 15      /* the hour record is one that no deck gives (calls only): 0 */
 };
 
 /* 0 for a deck that is accepted. */

@@ -4,9 +4,29 @@
 use frames::Coming;
 use frames::Ending;
 use rules::Written;
+use words::WORDS;
 
-// Words about a refused deck, for a person, go to descriptor 2 from here, with the frame's number and the rest of its head; there are none yet.
-fn explain(deck: &[u8], k: u64, rest: &[u8]) {}
+// Words about a refused deck, for a person, after a line with the frame's number and the rest of its head. Where standard error is closed, nobody
+// reads them.
+fn put_words(k: u64, rest: &[u8], text: &[u8]) {
+    io::write_all(2, b"frame ");
+    io::print_decimal(2, k);
+    io::write_all(2, rest);
+    io::write_all(2, text);
+}
+
+fn explain(deck: &[u8], k: u64, rest: &[u8]) {
+    let mut out = [0u8; WORDS];
+    let n = words::explain(deck, &mut out);
+    put_words(k, rest, &out[0..n]);
+}
+
+// Of a frame whose bytes were passed over.
+fn explain_over(k: u64, rest: &[u8]) {
+    let mut out = [0u8; WORDS];
+    let n = words::explain_number(1, &mut out);
+    put_words(k, rest, &out[0..n]);
+}
 
 // No report is longer than what is lent for it here.
 fn put_report(deck: &[u8], k: u64, rest: &[u8]) -> Ending {
@@ -24,12 +44,12 @@ fn put_report(deck: &[u8], k: u64, rest: &[u8]) -> Ending {
     Ending::Written
 }
 
-// The answer to a frame whose bytes were passed over: 1, and no deck to explain it by.
+// The answer to a frame whose bytes were passed over: 1.
 fn put_over(k: u64, rest: &[u8]) -> Ending {
     if !frames::put_answer(rest, b"refused 1 0\n", 12) {
         return Ending::Unwritten;
     }
-    explain(b"", k, rest);
+    explain_over(k, rest);
     Ending::Refused
 }
 

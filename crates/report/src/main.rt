@@ -2,9 +2,14 @@
 // An input longer than the window is longer than any deck, and its first bytes tell as much.
 use frames::Ending;
 use rules::Written;
+use words::WORDS;
 
-// Words about a refused deck, for a person, go to descriptor 2 from here; there are none yet.
-fn explain(deck: &[u8]) {}
+// Words about a refused deck, for a person. Where standard error is closed, nobody reads them.
+fn explain(deck: &[u8]) {
+    let mut out = [0u8; WORDS];
+    let n = words::explain(deck, &mut out);
+    io::write_all(2, &out[0..n]);
+}
 
 // No report is longer than what is lent for it here.
 fn put_report(deck: &[u8]) -> Ending {
