@@ -171,7 +171,7 @@ fn put_member(out: &mut [u8], at: usize, s: &[u8], place: Place, is: bool) -> us
     put_byte(out, r, b'"')
 }
 
-// For each of them.
+// The labels of all of them.
 fn put_labels(
     out: &mut [u8],
     at: usize,
@@ -255,10 +255,11 @@ fn within(n: usize, room: usize) -> usize
     n
 }
 
-// The words of a deck's refusal as lines, each with LF, into the lent bytes, and how many bytes they are; 0 for a deck whose hour is reconstructed.
-// What does not fit is cut off; WORDS bytes are always enough.
+// More bytes than the words of any refusal have.
 pub const WORDS: usize = 4096;
 
+// The words of a deck's refusal as lines, each with LF, into the lent bytes, and how many bytes they are; 0 for a deck whose hour is reconstructed.
+// What does not fit is cut off.
 pub fn explain(s: &[u8], out: &mut [u8]) -> usize
     ensures { λ r. ⌜ r ≤ length (now (out .entry)) ⌝ }
 {
