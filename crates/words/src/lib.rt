@@ -1,24 +1,25 @@
-// A refusal in words, for a clerk: what is wrong, where, what was found there and what to do. One table has the words of each refusal (`table`).
+// A refusal in words, for a clerk: what is wrong, where, what was found there and what to do. The tables of all words are in `table`, what is found is told by `findings`.
 // No contract says which words: that is tested. What is refused is decided by the proved reader and the proved groups.
-mod entries;
-mod form;
-mod lines;
-mod outside;
-mod shortage;
 mod table;
 mod text;
 
 use deck::Place;
 use deck::ScannedDeck;
-use lines::Span;
+use findings::Found;
+use findings::counted;
+use findings::entries;
+use findings::form;
+use findings::lines;
+use findings::lines::Span;
+use findings::outside;
+use findings::said;
+use findings::sentences;
+use findings::shortage;
 use rules::Key;
 use rules::Refusal;
 use rules::Verdict;
-use text::Found;
-use text::counted;
 use text::put_byte;
 use text::put_part;
-use text::said;
 ghost use mathlib.Core.Path.{_≡_};
 ghost use mathlib.Core.Bool.{true};
 ghost use Prim.Native.Nat.{_≤_};
@@ -159,6 +160,38 @@ fn group_of(r: Refusal) -> u32 {
     }
 }
 
+// A label between quotes after a space, for one of the group's deliveries.
+fn put_member(out: &mut [u8], at: usize, s: &[u8], place: Place, is: bool) -> usize {
+    if !is {
+        return at;
+    }
+    let p = put_byte(out, at, b' ');
+    let q = put_byte(out, p, b'"');
+    let r = put_part(out, q, s, place.from, place.upto);
+    put_byte(out, r, b'"')
+}
+
+// The labels of all of them.
+fn put_labels(
+    out: &mut [u8],
+    at: usize,
+    s: &[u8],
+    places: [Place; 32],
+    keys: [Key; 32],
+    m: usize,
+    group: u32,
+) -> usize {
+    let mut p = at;
+    let mut j: usize = 0;
+    while j < 32 {
+        let key = keys[j];
+        let place = places[j];
+        p = put_member(out, p, s, place, shortage::is_member(key, j, m, group));
+        j += 1;
+    }
+    p
+}
+
 // How many MWh a group is short of, and its deliveries.
 fn put_short(
     out: &mut [u8],
@@ -171,8 +204,8 @@ fn put_short(
     short: u64,
 ) -> usize {
     let p = put_piece(out, at, table::FOUND);
-    let q = table::put_found(out, p, s, counted(table::SHORT, short, 0));
-    let r = shortage::put_labels(out, q, s, places, keys, m, group);
+    let q = table::put_found(out, p, s, counted(sentences::SHORT, short, 0));
+    let r = put_labels(out, q, s, places, keys, m, group);
     put_byte(out, r, b'\n')
 }
 
@@ -222,10 +255,11 @@ fn within(n: usize, room: usize) -> usize
     n
 }
 
-// The words of a deck's refusal as lines, each with LF, into the lent bytes, and how many bytes they are; 0 for a deck whose hour is reconstructed.
-// What does not fit is cut off; WORDS bytes are always enough.
+// More bytes than the words of any refusal have.
 pub const WORDS: usize = 4096;
 
+// The words of a deck's refusal as lines, each with LF, into the lent bytes, and how many bytes they are; 0 for a deck whose hour is reconstructed.
+// What does not fit is cut off.
 pub fn explain(s: &[u8], out: &mut [u8]) -> usize
     ensures { λ r. ⌜ r ≤ length (now (out .entry)) ⌝ }
 {

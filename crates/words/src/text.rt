@@ -1,52 +1,8 @@
 // Text put into lent bytes as far as they go: each function is handed the place reached and gives the place after what it put.
-use crate::lines;
-use crate::lines::Span;
-use crate::lines::peek;
-
-// A line of a table of words, from 1, and what stands for its marks: numbers for %1 to %4, parts of the deck for %5 to %7. 0 is no line.
-pub struct Found {
-    pub words: usize,
-    pub one: u64,
-    pub two: u64,
-    pub three: u64,
-    pub four: u64,
-    pub five: Span,
-    pub six: Span,
-    pub seven: Span,
-}
-
-// Words with two numbers.
-pub fn counted(words: usize, one: u64, two: u64) -> Found {
-    Found {
-        words,
-        one,
-        two,
-        three: 0,
-        four: 0,
-        five: lines::nowhere(),
-        six: lines::nowhere(),
-        seven: lines::nowhere(),
-    }
-}
-
-// Words that have no marks.
-pub fn said(words: usize) -> Found {
-    counted(words, 0, 0)
-}
-
-// Words with a number and parts of the deck.
-pub fn named(words: usize, one: u64, five: Span, six: Span, seven: Span) -> Found {
-    Found {
-        words,
-        one,
-        two: 0,
-        three: 0,
-        four: 0,
-        five,
-        six,
-        seven,
-    }
-}
+use findings::Found;
+use findings::lines;
+use findings::lines::Span;
+use findings::lines::peek;
 
 fn number_of(x: Found, mark: u8) -> u64 {
     match mark {
