@@ -48,7 +48,7 @@ a source is missing, or a delivery too many
 give one delivery a number
 the group's deliveries are more than can be unloaded; check them and the D lines
 the group's D lines take more than it is due; check them
-lend 4,160 cells, or 131,072 bytes for a report
+lend 4,160 cells, 131,072 bytes for a report, or 64 numbers for labels
 make records by reading decks",
         said(number),
     )
