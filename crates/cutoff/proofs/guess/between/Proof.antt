@@ -6,31 +6,24 @@ use borrow.Author.Needs.{needs}
 use Rattle.cutoff.proofs.guess.between.Statement.{statement}
 use Rattle.cutoff.proofs.guess.between.Tie as tie
 
--- src/guess.rt:26:9
 returns : tie.Need-returns
 returns c = search needs
 
--- src/guess.rt:29:9
 returns-2 : tie.Need-returns-2
 returns-2 c = search needs
 
--- src/guess.rt:31:13
 less-requires : tie.Need-less-requires
 less-requires c κs = search needs
 
--- src/guess.rt:33:9
 returns-3 : tie.Need-returns-3
 returns-3 c = search needs
 
--- src/guess.rt:35:19
 mul-less : tie.Need-mul-less
 mul-less c = search needs
 
--- src/guess.rt:35:19
 div-less : tie.Need-div-less
 div-less c = search needs
 
--- src/guess.rt:35:14
 mul-less-2 : tie.Need-mul-less-2
 mul-less-2 c =
     let else2 = c .before .before in
@@ -38,7 +31,6 @@ mul-less-2 c =
     let f : start .args .part * 64 / start .args .whole ≤ 8388608 = omega (arith, div-le-self (start .args .part * 64) (start .args .whole), else2 .if2 .left) in
     omega (arith, mul-le-mul (c .if3 .left) f)
 
--- src/guess.rt:35:14
 add-less : tie.Need-add-less
 add-less c =
     let else2 = c .before .before in
@@ -46,11 +38,9 @@ add-less c =
     let f : start .args .part * 64 / start .args .whole ≤ 8388608 = omega (arith, div-le-self (start .args .part * 64) (start .args .whole), else2 .if2 .left) in
     omega (arith, mul-le-mul (c .if3 .left) f)
 
--- src/guess.rt:35:5
 less-requires-2 : tie.Need-less-requires-2
 less-requires-2 c κs = search needs
 
--- src/guess.rt:24:1
 returns-4 : tie.Need-returns-4
 returns-4 c = search needs
 

@@ -10,91 +10,69 @@ Inv-loop one span cap n total lo₀ hi₀ over₀ middles₀ count₀ i₀ lo hi
 abbrev μ-loop : tie.MeasureT-loop
 μ-loop one span cap n total lo₀ hi₀ over₀ middles₀ count₀ i₀ lo hi over middles count i = n - i
 
--- src/guess.rt:74:5
 loop-holds : tie.Need-loop-holds Inv-loop μ-loop
 loop-holds c = search needs
 
--- src/guess.rt:75:17
 mul-o : tie.Need-mul-o Inv-loop μ-loop
 mul-o c = search needs
 
--- src/guess.rt:75:17
 element-copy-out-o : tie.Need-element-copy-out-o Inv-loop μ-loop
 element-copy-out-o c = search needs
 
--- src/guess.rt:76:17
 mul-w : tie.Need-mul-w Inv-loop μ-loop
 mul-w c = search needs
 
--- src/guess.rt:76:17
 element-copy-out-w : tie.Need-element-copy-out-w Inv-loop μ-loop
 element-copy-out-w c = search needs
 
--- src/guess.rt:77:43
 less-requires : tie.Need-less-requires Inv-loop μ-loop
 less-requires c κs = search needs
 
--- src/guess.rt:80:49
 mul-wrapping-add-u64 : tie.Need-mul-wrapping-add-u64 Inv-loop μ-loop
 mul-wrapping-add-u64 c = search needs
 
--- src/guess.rt:80:49
 element-copy-out-wrapping-add-u64 : tie.Need-element-copy-out-wrapping-add-u64 Inv-loop μ-loop
 element-copy-out-wrapping-add-u64 c = search needs
 
--- src/guess.rt:80:9
 wrapping-add-u64-requires : tie.Need-wrapping-add-u64-requires Inv-loop μ-loop
 wrapping-add-u64-requires c κs = search needs
 
--- src/guess.rt:81:55
 less-requires-2 : tie.Need-less-requires-2 Inv-loop μ-loop
 less-requires-2 c κs = search needs
 
--- src/guess.rt:81:9
 wrapping-add-u64-requires-2 : tie.Need-wrapping-add-u64-requires-2 Inv-loop μ-loop
 wrapping-add-u64-requires-2 c κs = search needs
 
--- src/guess.rt:82:51
 least-requires : tie.Need-least-requires Inv-loop μ-loop
 least-requires c κs = search needs
 
--- src/guess.rt:82:9
 wrapping-add-u64-requires-3 : tie.Need-wrapping-add-u64-requires-3 Inv-loop μ-loop
 wrapping-add-u64-requires-3 c κs = search needs
 
--- src/guess.rt:83:9
 add-i : tie.Need-add-i Inv-loop μ-loop
 add-i c = search needs
 
--- src/guess.rt:74:5
 loop-less : tie.Need-loop-less Inv-loop μ-loop
 loop-less c = search needs
 
--- src/guess.rt:74:5
 loop-again : tie.Need-loop-again Inv-loop μ-loop
 loop-again c = search needs
 
--- src/guess.rt:92:29
 mean-requires : tie.Need-mean-requires Inv-loop μ-loop
 mean-requires c κs = search needs
 
--- src/guess.rt:92:15
 by-thirds-requires : tie.Need-by-thirds-requires Inv-loop μ-loop
 by-thirds-requires c κs = search needs
 
--- src/guess.rt:93:29
 add-least : tie.Need-add-least Inv-loop μ-loop
 add-least c = search needs
 
--- src/guess.rt:93:16
 least-requires-2 : tie.Need-least-requires-2 Inv-loop μ-loop
 least-requires-2 c κs = search needs
 
--- src/guess.rt:65:1
 returns : tie.Need-returns Inv-loop μ-loop
 returns c = search needs
 
--- src/guess.rt:65:1
 returns-2 : tie.Need-returns-2 Inv-loop μ-loop
 returns-2 c = search needs
 

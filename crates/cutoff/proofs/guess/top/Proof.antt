@@ -10,63 +10,48 @@ Inv-loop one span inv cap n p sum₀ slope₀ i₀ sum slope i = i ≤ n
 abbrev μ-loop : tie.MeasureT-loop
 μ-loop one span inv cap n p sum₀ slope₀ i₀ sum slope i = n - i
 
--- src/guess.rt:112:5
 loop-holds : tie.Need-loop-holds Inv-loop μ-loop
 loop-holds c = search needs
 
--- src/guess.rt:113:17
 mul-o : tie.Need-mul-o Inv-loop μ-loop
 mul-o c = search needs
 
--- src/guess.rt:113:17
 element-copy-out-o : tie.Need-element-copy-out-o Inv-loop μ-loop
 element-copy-out-o c = search needs
 
--- src/guess.rt:114:17
 mul-w : tie.Need-mul-w Inv-loop μ-loop
 mul-w c = search needs
 
--- src/guess.rt:114:17
 element-copy-out-w : tie.Need-element-copy-out-w Inv-loop μ-loop
 element-copy-out-w c = search needs
 
--- src/guess.rt:115:17
 mul-v : tie.Need-mul-v Inv-loop μ-loop
 mul-v c = search needs
 
--- src/guess.rt:115:17
 element-copy-out-v : tie.Need-element-copy-out-v Inv-loop μ-loop
 element-copy-out-v c = search needs
 
--- src/guess.rt:116:17
 mul-k : tie.Need-mul-k Inv-loop μ-loop
 mul-k c = search needs
 
--- src/guess.rt:116:17
 element-copy-out-k : tie.Need-element-copy-out-k Inv-loop μ-loop
 element-copy-out-k c = search needs
 
--- src/guess.rt:119:9
 wrapping-add-u64-requires : tie.Need-wrapping-add-u64-requires Inv-loop μ-loop
 wrapping-add-u64-requires c κs = search needs
 
--- src/guess.rt:120:9
 wrapping-add-u64-requires-2 : tie.Need-wrapping-add-u64-requires-2 Inv-loop μ-loop
 wrapping-add-u64-requires-2 c κs = search needs
 
--- src/guess.rt:121:9
 add-i : tie.Need-add-i Inv-loop μ-loop
 add-i c = search needs
 
--- src/guess.rt:112:5
 loop-less : tie.Need-loop-less Inv-loop μ-loop
 loop-less c = search needs
 
--- src/guess.rt:112:5
 loop-again : tie.Need-loop-again Inv-loop μ-loop
 loop-again c = search needs
 
--- src/guess.rt:99:1
 returns : tie.Need-returns Inv-loop μ-loop
 returns c = search needs
 
