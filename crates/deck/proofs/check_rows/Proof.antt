@@ -39,35 +39,51 @@ text c = c .before .before .args .s .now
 abbrev outcome : tie.At-loop Inv-loop μ-loop → Outcome Hour
 outcome c = let start = c .before .before in linesFrom (length (text c)) (text c) (started (start .args .losses)) (start .args .from)
 
+-- from a line that was tried back to the loop's turn
+abbrev Turn : Type 0
+Turn = tie.In-loop Inv-loop μ-loop
+
+abbrev direct-in : tie.After-direct-at Inv-loop μ-loop → Turn
+direct-in c = c .before .before .before .before .before .before .before .before .before .before
+
+abbrev delivery-in : tie.After-delivery-at Inv-loop μ-loop → Turn
+delivery-in c = c .before .before .before .before .before .before
+
+abbrev source-in : tie.After-source-at Inv-loop μ-loop → Turn
+source-in c = c .before .before .before .before .before .before .before
+
+abbrev end-in : tie.After-end-at Inv-loop μ-loop → Turn
+end-in c = c .before .before .before .before .before .before
+
 -- a D line
-direct-turn : (c : tie.After-direct-at Inv-loop μ-loop) → let at-loop = c .before .before .before .before .before .before .before .before .before .before .before in DirectTurn (text at-loop) (at-loop .loop .inv .hour) (tables at-loop) (at-loop .loop .at) (c .direct-at .result)
+direct-turn : (c : tie.After-direct-at Inv-loop μ-loop) → let at-loop = direct-in c .before in DirectTurn (text at-loop) (at-loop .loop .inv .hour) (tables at-loop) (at-loop .loop .at) (c .direct-at .result)
 direct-turn c =
     let at-d = c .before .before .before .before .before .before .before .before in
     let at-loop = at-d .before .before .before in
     let start = at-loop .before .before in
     checks.direct-turn (text at-loop) (outcome at-loop) (start .args .losses) (at-loop .loop .n) (tables at-loop) (at-loop .loop .totals) (at-loop .loop .at) (at-loop .loop .inv) _ (c .direct-at .ensures) (at-d .if1 .taken)
 
-direct-takes : (c : tie.After-known-told2 Inv-loop μ-loop) → let told = c .before in let tried = told .before .before in let at-loop = tried .before .before .before .before .before .before .before .before .before .before .before in DirectTakes (text at-loop) (at-loop .loop .inv .hour) (tables at-loop) (at-loop .loop .at) (told .entry2 .given .0 .0) (tried .direct-at .result .next)
+direct-takes : (c : tie.After-known-told2 Inv-loop μ-loop) → let told = c .before in let tried = told .before .before in let at-loop = direct-in tried .before in DirectTakes (text at-loop) (at-loop .loop .inv .hour) (tables at-loop) (at-loop .loop .at) (told .entry2 .given .0 .0) (tried .direct-at .result .next)
 direct-takes c =
     let told = c .before in
     let tried = told .before .before in
     direct-turn tried .takes (told .entry2 .given .0 .0) (told .entry2 .given .1)
 
 -- a T line
-delivery-turn : (c : tie.After-delivery-at Inv-loop μ-loop) → let at-loop = c .before .before .before .before .before .before .before in DeliveryTurn (text at-loop) (at-loop .loop .inv .hour) (tables at-loop) (at-loop .loop .at) (c .delivery-at .result)
+delivery-turn : (c : tie.After-delivery-at Inv-loop μ-loop) → let at-loop = delivery-in c .before in DeliveryTurn (text at-loop) (at-loop .loop .inv .hour) (tables at-loop) (at-loop .loop .at) (c .delivery-at .result)
 delivery-turn c =
     let at-t = c .before .before .before in
     let at-loop = at-t .before .before .before .before in
     let start = at-loop .before .before in
     checks.delivery-turn (text at-loop) (outcome at-loop) (start .args .losses) (at-loop .loop .n) (tables at-loop) (at-loop .loop .totals) (at-loop .loop .at) (at-loop .loop .inv) _ (c .delivery-at .ensures) (at-t .if2 .taken)
 
-delivery-room : (c : tie.After-enum-told Inv-loop μ-loop) → let tried = c .before .before in let at-loop = tried .before .before .before .before .before .before .before in (at-loop .loop .inv .hour .ndeliveries < 32) × (at-loop .loop .at < tried .delivery-at .result .next)
+delivery-room : (c : tie.After-enum-told Inv-loop μ-loop) → let tried = c .before .before in let at-loop = delivery-in tried .before in (at-loop .loop .inv .hour .ndeliveries < 32) × (at-loop .loop .at < tried .delivery-at .result .next)
 delivery-room c =
     let tried = c .before .before in
     let k = delivery-turn tried .takes (c .enum-told .given .1) in (k .room, k .further)
 
 -- any line but T, D and E
-source-turn : (c : tie.After-source-at Inv-loop μ-loop) → let at-loop = c .before .before .before .before .before .before .before .before in SourceTurn (text at-loop) (at-loop .loop .inv .hour) (tables at-loop) (at-loop .loop .at) (c .source-at .result)
+source-turn : (c : tie.After-source-at Inv-loop μ-loop) → let at-loop = source-in c .before in SourceTurn (text at-loop) (at-loop .loop .inv .hour) (tables at-loop) (at-loop .loop .at) (c .source-at .result)
 source-turn c =
     let at-source = c .before .before .before in
     let not-t = at-source .before in
@@ -76,7 +92,7 @@ source-turn c =
     let start = at-loop .before .before in
     checks.source-turn (text at-loop) (outcome at-loop) (start .args .losses) (at-loop .loop .n) (tables at-loop) (at-loop .loop .totals) (at-loop .loop .at) (at-loop .loop .inv) _ _ (c .source-at .ensures) refl (not-d .if1 .left) (not-t .if2 .left) (at-source .if3 .left)
 
-source-room : (c : tie.After-enum-told3 Inv-loop μ-loop) → let tried = c .before .before in let at-loop = tried .before .before .before .before .before .before .before .before in (at-loop .loop .inv .hour .nsources < 32) × (at-loop .loop .at < tried .source-at .result .next)
+source-room : (c : tie.After-enum-told3 Inv-loop μ-loop) → let tried = c .before .before in let at-loop = source-in tried .before in (at-loop .loop .inv .hour .nsources < 32) × (at-loop .loop .at < tried .source-at .result .next)
 source-room c =
     let tried = c .before .before in
     let k = source-turn tried .takes (c .enum-told3 .given .1) in (k .room, k .further)
@@ -105,7 +121,7 @@ returns : tie.Need-returns Inv-loop μ-loop
 returns c =
     let told = c .before in
     let tried = told .before .before in
-    let at-loop = tried .before .before .before .before .before .before .before .before .before .before .before in
+    let at-loop = direct-in tried .before in
     let start = at-loop .before .before in
     checks-refused (text at-loop) (outcome at-loop) (start .args .losses) (at-loop .loop .n) (tables at-loop) (at-loop .loop .totals) (at-loop .loop .at) (at-loop .loop .inv) _ (direct-turn tried .refuses _ (told .entry .given .1) _ (at-loop .loop .inv .reads .going))
 
@@ -126,14 +142,14 @@ add-n c =
 loop-less : tie.Need-loop-less Inv-loop μ-loop
 loop-less c =
     let named = c .before .before .before .before in
-    let in-loop = named .before .before .before .before .before .before .before .before .before .before .before .before .before in
+    let in-loop = direct-in (named .before .before .before) in
     omega (arith, direct-takes named .further, in-loop .loop-test .taken)
 
 loop-again : tie.Need-loop-again Inv-loop μ-loop
 loop-again c =
     let noted = c .before in
     let named = noted .before .before .before in
-    let at-loop = named .before .before .before .before .before .before .before .before .before .before .before .before .before .before in
+    let at-loop = direct-in (named .before .before .before) .before in
     let start = at-loop .before .before in
     checks-direct (text at-loop) (outcome at-loop) (start .args .losses) (at-loop .loop .n) (tables at-loop) (at-loop .loop .totals) (at-loop .loop .at) (at-loop .loop .inv) _ _ (direct-takes named) _ _ (noted .keep-direct .ensures .0) (noted .keep-direct .ensures .1)
 
@@ -153,7 +169,7 @@ returns-2 : tie.Need-returns-2 Inv-loop μ-loop
 returns-2 c =
     let told = c .before in
     let tried = told .before .before in
-    let at-loop = tried .before .before .before .before .before .before .before in
+    let at-loop = delivery-in tried .before in
     let start = at-loop .before .before in
     checks-refused (text at-loop) (outcome at-loop) (start .args .losses) (at-loop .loop .n) (tables at-loop) (at-loop .loop .totals) (at-loop .loop .at) (at-loop .loop .inv) _ (delivery-turn tried .refuses _ (told .v .given .1) _ (at-loop .loop .inv .reads .going))
 
@@ -163,13 +179,13 @@ enum-told c = search needs
 keep-spelling-requires : tie.Need-keep-spelling-requires Inv-loop μ-loop
 keep-spelling-requires c κs =
     let taken = c .before .before .before in
-    let at-loop = taken .before .before .before .before .before .before .before .before .before in
+    let at-loop = delivery-in (taken .before .before) .before in
     omega (arith, delivery-room taken .0, ap (λ (n : Counts). n .deliveries) (at-loop .loop .inv .counts))
 
 add-delivery-requires : tie.Need-add-delivery-requires Inv-loop μ-loop
 add-delivery-requires c κs =
     let taken = c .before .before .before .before .before in
-    let at-loop = taken .before .before .before .before .before .before .before .before .before in
+    let at-loop = delivery-in (taken .before .before) .before in
     omega (arith, delivery-room taken .0, at-loop .loop .inv .reads .totalled .most-delivered)
 
 add-n-2 : tie.Need-add-n-2 Inv-loop μ-loop
@@ -181,7 +197,7 @@ add-n-2 c =
 loop-less-2 : tie.Need-loop-less-2 Inv-loop μ-loop
 loop-less-2 c =
     let taken = c .before .before .before .before .before .before .before in
-    let in-loop = taken .before .before .before .before .before .before .before .before in
+    let in-loop = delivery-in (taken .before .before) in
     omega (arith, delivery-room taken .1, in-loop .loop-test .taken)
 
 loop-again-2 : tie.Need-loop-again-2 Inv-loop μ-loop
@@ -190,7 +206,7 @@ loop-again-2 c =
     let spelled = summed .before .before in
     let taken = spelled .before .before .before .before in
     let tried = taken .before .before in
-    let at-loop = tried .before .before .before .before .before .before .before in
+    let at-loop = delivery-in tried .before in
     let start = at-loop .before .before in
     checks-delivery (text at-loop) (outcome at-loop) (start .args .losses) (at-loop .loop .n) (tables at-loop) (at-loop .loop .totals) (at-loop .loop .at) (at-loop .loop .inv) _ (delivery-turn tried) (taken .enum-told .given .1) _ _ _ (spelled .keep-spelling .ensures .0) (spelled .keep-spelling .ensures .1) (summed .add-delivery .ensures .0) (summed .add-delivery .ensures .1)
 
@@ -257,7 +273,7 @@ returns-5 : tie.Need-returns-5 Inv-loop μ-loop
 returns-5 c =
     let told = c .before in
     let tried = told .before .before in
-    let at-loop = tried .before .before .before .before .before .before .before .before in
+    let at-loop = source-in tried .before in
     let start = at-loop .before .before in
     checks-refused (text at-loop) (outcome at-loop) (start .args .losses) (at-loop .loop .n) (tables at-loop) (at-loop .loop .totals) (at-loop .loop .at) (at-loop .loop .inv) _ (source-turn tried .refuses _ (told .v3 .given .1) _ (at-loop .loop .inv .reads .going))
 
@@ -267,7 +283,7 @@ enum-told-3 c = search needs
 keep-spelling-requires-2 : tie.Need-keep-spelling-requires-2 Inv-loop μ-loop
 keep-spelling-requires-2 c κs =
     let taken = c .before .before .before in
-    let at-loop = taken .before .before .before .before .before .before .before .before .before .before in
+    let at-loop = source-in (taken .before .before) .before in
     omega (arith, source-room taken .0, ap (λ (n : Counts). n .sources) (at-loop .loop .inv .counts))
 
 unit-high-requires : tie.Need-unit-high-requires Inv-loop μ-loop
@@ -276,19 +292,19 @@ unit-high-requires c κs = search needs
 mul-high : tie.Need-mul-high Inv-loop μ-loop
 mul-high c =
     let taken = c .before .before .before .before .before .before in
-    let at-loop = taken .before .before .before .before .before .before .before .before .before .before in
+    let at-loop = source-in (taken .before .before) .before in
     omega (arith, source-room taken .0, ap (λ (n : Counts). n .sources) (at-loop .loop .inv .counts))
 
 array-write-high : tie.Need-array-write-high Inv-loop μ-loop
 array-write-high c =
     let taken = c .before .before .before .before .before .before in
-    let at-loop = taken .before .before .before .before .before .before .before .before .before .before in
+    let at-loop = source-in (taken .before .before) .before in
     omega (arith, source-room taken .0, ap (λ (n : Counts). n .sources) (at-loop .loop .inv .counts))
 
 add-source-requires : tie.Need-add-source-requires Inv-loop μ-loop
 add-source-requires c κs =
     let taken = c .before .before .before .before .before .before in
-    let at-loop = taken .before .before .before .before .before .before .before .before .before .before in
+    let at-loop = source-in (taken .before .before) .before in
     omega (arith, source-room taken .0, at-loop .loop .inv .reads .totalled .most-generated)
 
 add-n-3 : tie.Need-add-n-3 Inv-loop μ-loop
@@ -300,7 +316,7 @@ add-n-3 c =
 loop-less-3 : tie.Need-loop-less-3 Inv-loop μ-loop
 loop-less-3 c =
     let taken = c .before .before .before .before .before .before .before in
-    let in-loop = taken .before .before .before .before .before .before .before .before .before in
+    let in-loop = source-in (taken .before .before) in
     omega (arith, source-room taken .1, in-loop .loop-test .taken)
 
 loop-again-3 : tie.Need-loop-again-3 Inv-loop μ-loop
@@ -309,7 +325,7 @@ loop-again-3 c =
     let spelled = levelled .before .before in
     let taken = spelled .before .before .before .before in
     let tried = taken .before .before in
-    let at-loop = tried .before .before .before .before .before .before .before .before in
+    let at-loop = source-in tried .before in
     let start = at-loop .before .before in
     checks-source (text at-loop) (outcome at-loop) (start .args .losses) (at-loop .loop .n) (tables at-loop) (at-loop .loop .totals) (at-loop .loop .at) (at-loop .loop .inv) _ (source-turn tried) (taken .enum-told3 .given .1) _ _ _ _ (spelled .keep-spelling2 .ensures .0) (spelled .keep-spelling2 .ensures .1) (ap (set (at-loop .loop .high) (at-loop .loop .n .sources)) (levelled .unit-high .ensures)) (c .add-source .ensures .0) (c .add-source .ensures .1)
 

@@ -40,35 +40,51 @@ text c = c .before .before .before .args .s .now
 abbrev outcome : tie.At-loop Inv-loop μ-loop → Outcome Hour
 outcome c = let start = c .before .before .before in linesFrom (length (text c)) (text c) (started (start .args .losses)) (start .args .from)
 
+-- from a line that was tried back to the loop's turn
+abbrev Turn : Type 0
+Turn = tie.In-loop Inv-loop μ-loop
+
+abbrev direct-in : tie.After-direct-at Inv-loop μ-loop → Turn
+direct-in c = c .before .before .before .before .before .before .before .before .before .before
+
+abbrev delivery-in : tie.After-delivery-at Inv-loop μ-loop → Turn
+delivery-in c = c .before .before .before .before .before .before
+
+abbrev source-in : tie.After-source-at Inv-loop μ-loop → Turn
+source-in c = c .before .before .before .before .before .before .before
+
+abbrev end-in : tie.After-end-at Inv-loop μ-loop → Turn
+end-in c = c .before .before .before .before .before .before
+
 -- a D line
-direct-turn : (c : tie.After-direct-at Inv-loop μ-loop) → let at-loop = c .before .before .before .before .before .before .before .before .before .before .before in DirectTurn (text at-loop) (at-loop .loop .h) (tables at-loop) (at-loop .loop .at) (c .direct-at .result)
+direct-turn : (c : tie.After-direct-at Inv-loop μ-loop) → let at-loop = direct-in c .before in DirectTurn (text at-loop) (at-loop .loop .h) (tables at-loop) (at-loop .loop .at) (c .direct-at .result)
 direct-turn c =
     let at-d = c .before .before .before .before .before .before .before .before in
     let at-loop = at-d .before .before .before in
     subst (DirectTurn (text at-loop) (at-loop .loop .h) (tables at-loop) (at-loop .loop .at)) (sym (c .direct-at .ensures))
     (direct-at-turn (text at-loop) (at-loop .loop .h) (tables at-loop) (at-loop .loop .inv .reads .kept) (at-loop .loop .at) (at-d .if1 .taken))
 
-direct-takes : (c : tie.After-known-told2 Inv-loop μ-loop) → let told = c .before in let tried = told .before .before in let at-loop = tried .before .before .before .before .before .before .before .before .before .before .before in DirectTakes (text at-loop) (at-loop .loop .h) (tables at-loop) (at-loop .loop .at) (told .entry2 .given .0 .0) (tried .direct-at .result .next)
+direct-takes : (c : tie.After-known-told2 Inv-loop μ-loop) → let told = c .before in let tried = told .before .before in let at-loop = direct-in tried .before in DirectTakes (text at-loop) (at-loop .loop .h) (tables at-loop) (at-loop .loop .at) (told .entry2 .given .0 .0) (tried .direct-at .result .next)
 direct-takes c =
     let told = c .before in
     let tried = told .before .before in
     direct-turn tried .takes (told .entry2 .given .0 .0) (told .entry2 .given .1)
 
 -- a T line
-delivery-turn : (c : tie.After-delivery-at Inv-loop μ-loop) → let at-loop = c .before .before .before .before .before .before .before in DeliveryTurn (text at-loop) (at-loop .loop .h) (tables at-loop) (at-loop .loop .at) (c .delivery-at .result)
+delivery-turn : (c : tie.After-delivery-at Inv-loop μ-loop) → let at-loop = delivery-in c .before in DeliveryTurn (text at-loop) (at-loop .loop .h) (tables at-loop) (at-loop .loop .at) (c .delivery-at .result)
 delivery-turn c =
     let at-t = c .before .before .before in
     let at-loop = at-t .before .before .before .before in
     subst (DeliveryTurn (text at-loop) (at-loop .loop .h) (tables at-loop) (at-loop .loop .at)) (sym (c .delivery-at .ensures))
     (delivery-at-turn (text at-loop) (at-loop .loop .h) (tables at-loop) (at-loop .loop .inv .reads .kept) (at-loop .loop .at) (at-t .if2 .taken))
 
-delivery-room : (c : tie.After-enum-told Inv-loop μ-loop) → let tried = c .before .before in let at-loop = tried .before .before .before .before .before .before .before in (at-loop .loop .h .ndeliveries < 32) × (at-loop .loop .at < tried .delivery-at .result .next)
+delivery-room : (c : tie.After-enum-told Inv-loop μ-loop) → let tried = c .before .before in let at-loop = delivery-in tried .before in (at-loop .loop .h .ndeliveries < 32) × (at-loop .loop .at < tried .delivery-at .result .next)
 delivery-room c =
     let tried = c .before .before in
     let k = delivery-turn tried .takes (c .enum-told .given .1) in (k .room, k .further)
 
 -- any line but T, D and E
-source-turn : (c : tie.After-source-at Inv-loop μ-loop) → let at-loop = c .before .before .before .before .before .before .before .before in SourceTurn (text at-loop) (at-loop .loop .h) (tables at-loop) (at-loop .loop .at) (c .source-at .result)
+source-turn : (c : tie.After-source-at Inv-loop μ-loop) → let at-loop = source-in c .before in SourceTurn (text at-loop) (at-loop .loop .h) (tables at-loop) (at-loop .loop .at) (c .source-at .result)
 source-turn c =
     let at-source = c .before .before .before in
     let not-t = at-source .before in
@@ -77,20 +93,20 @@ source-turn c =
     subst (SourceTurn (text at-loop) (at-loop .loop .h) (tables at-loop) (at-loop .loop .at)) (sym (c .source-at .ensures))
     (source-at-turn (text at-loop) (at-loop .loop .h) (tables at-loop) (at-loop .loop .inv .reads .kept) (at-loop .loop .at) _ refl (not-d .if1 .left) (not-t .if2 .left) (at-source .if3 .left))
 
-source-room : (c : tie.After-enum-told4 Inv-loop μ-loop) → let tried = c .before .before in let at-loop = tried .before .before .before .before .before .before .before .before in (at-loop .loop .h .nsources < 32) × (at-loop .loop .at < tried .source-at .result .next)
+source-room : (c : tie.After-enum-told4 Inv-loop μ-loop) → let tried = c .before .before in let at-loop = source-in tried .before in (at-loop .loop .h .nsources < 32) × (at-loop .loop .at < tried .source-at .result .next)
 source-room c =
     let tried = c .before .before in
     let k = source-turn tried .takes (c .enum-told4 .given .1) in (k .room, k .further)
 
 -- the E line
-end-is : (c : tie.After-end-at Inv-loop μ-loop) → let at-loop = c .before .before .before .before .before .before .before in (r : Refusal) → c .end-at .result ≡ Refused r → outcome at-loop ≡ refused r
+end-is : (c : tie.After-end-at Inv-loop μ-loop) → let at-loop = end-in c .before in (r : Refusal) → c .end-at .result ≡ Refused r → outcome at-loop ≡ refused r
 end-is c =
     let counted = c .before in
     let at-e = counted .before in
     let at-loop = at-e .before .before .before .before .before in
     end-refused (text at-loop) (outcome at-loop) (at-loop .loop .h) (tables at-loop) (at-loop .loop .totals) (at-loop .loop .at) (at-loop .loop .inv .reads) (at-e .if3 .taken) _ (counted .next-line .ensures) _ (c .end-at .ensures)
 
-whole-is : (c : tie.After-enum-told2 Inv-loop μ-loop) → let at-loop = c .before .before .before .before .before .before .before .before .before in outcome at-loop ≡ finished (at-loop .loop .h)
+whole-is : (c : tie.After-enum-told2 Inv-loop μ-loop) → let at-loop = end-in (c .before .before) .before in outcome at-loop ≡ finished (at-loop .loop .h)
 whole-is c =
     let ended = c .before .before in
     let counted = ended .before in
@@ -127,7 +143,7 @@ returns : tie.Need-returns Inv-loop μ-loop
 returns c =
     let told = c .before .before in
     let tried = told .before .before in
-    let at-loop = tried .before .before .before .before .before .before .before .before .before .before .before in
+    let at-loop = direct-in tried .before in
     answer-refused (text at-loop) (outcome at-loop) _ _ (c .refused .ensures) (direct-turn tried .refuses _ (told .entry .given .1) _ (at-loop .loop .inv .reads .going))
 
 enum-known-entry-2 : tie.Need-enum-known-entry-2 Inv-loop μ-loop
@@ -156,13 +172,13 @@ add-h c =
 loop-less : tie.Need-loop-less Inv-loop μ-loop
 loop-less c =
     let named = c .before .before .before in
-    let in-loop = named .before .before .before .before .before .before .before .before .before .before .before .before .before in
+    let in-loop = direct-in (named .before .before .before) in
     omega (arith, direct-takes named .further, in-loop .loop-test .taken)
 
 loop-again : tie.Need-loop-again Inv-loop μ-loop
 loop-again c =
     let named = c .before .before .before in
-    let at-loop = named .before .before .before .before .before .before .before .before .before .before .before .before .before .before in
+    let at-loop = direct-in (named .before .before .before) .before in
     rows-direct (text at-loop) (outcome at-loop) (at-loop .loop .h) (tables at-loop) (at-loop .loop .totals) (at-loop .loop .sources) (at-loop .loop .deliveries) (at-loop .loop .at) (at-loop .loop .inv) _ _ (direct-takes named) _ _ (c .keep-direct .ensures .0) (c .keep-direct .ensures .1)
 
 add-delivery-at : tie.Need-add-delivery-at Inv-loop μ-loop
@@ -183,7 +199,7 @@ returns-2 : tie.Need-returns-2 Inv-loop μ-loop
 returns-2 c =
     let told = c .before .before in
     let tried = told .before .before in
-    let at-loop = tried .before .before .before .before .before .before .before in
+    let at-loop = delivery-in tried .before in
     answer-refused (text at-loop) (outcome at-loop) _ _ (c .refused2 .ensures) (delivery-turn tried .refuses _ (told .v .given .1) _ (at-loop .loop .inv .reads .going))
 
 enum-told : tie.Need-enum-told Inv-loop μ-loop
@@ -207,7 +223,7 @@ array-set-from-deliveries c =
 add-delivery-requires : tie.Need-add-delivery-requires Inv-loop μ-loop
 add-delivery-requires c κs =
     let taken = c .before .before .before .before .before .before in
-    let at-loop = taken .before .before .before .before .before .before .before .before .before in
+    let at-loop = delivery-in (taken .before .before) .before in
     omega (arith, delivery-room taken .0, at-loop .loop .inv .reads .totalled .most-delivered)
 
 mul-e : tie.Need-mul-e Inv-loop μ-loop
@@ -228,7 +244,7 @@ add-h-2 c =
 loop-less-2 : tie.Need-loop-less-2 Inv-loop μ-loop
 loop-less-2 c =
     let taken = c .before .before .before .before .before .before .before in
-    let in-loop = taken .before .before .before .before .before .before .before .before in
+    let in-loop = delivery-in (taken .before .before) in
     omega (arith, delivery-room taken .1, in-loop .loop-test .taken)
 
 loop-again-2 : tie.Need-loop-again-2 Inv-loop μ-loop
@@ -236,7 +252,7 @@ loop-again-2 c =
     let spelled = c .before .before .before in
     let taken = spelled .before .before .before .before in
     let tried = taken .before .before in
-    let at-loop = tried .before .before .before .before .before .before .before in
+    let at-loop = delivery-in tried .before in
     rows-delivery (text at-loop) (outcome at-loop) (at-loop .loop .h) (tables at-loop) (at-loop .loop .totals) (at-loop .loop .sources) (at-loop .loop .deliveries) (at-loop .loop .at) (at-loop .loop .inv) _ (delivery-turn tried) (taken .enum-told .given .1) _ _ _ (spelled .keep-spelling .ensures .0) (spelled .keep-spelling .ensures .1) (c .add-delivery .ensures .0) (c .add-delivery .ensures .1)
 
 next-line-requires : tie.Need-next-line-requires Inv-loop μ-loop
@@ -262,7 +278,7 @@ returns-3 : tie.Need-returns-3 Inv-loop μ-loop
 returns-3 c =
     let told = c .before .before in
     let ended = told .before .before in
-    let at-loop = ended .before .before .before .before .before .before .before in
+    let at-loop = end-in ended .before in
     answer-refused (text at-loop) (outcome at-loop) _ _ (c .refused3 .ensures) (end-is ended _ (told .v2 .given .1))
 
 enum-told-2 : tie.Need-enum-told-2 Inv-loop μ-loop
@@ -284,7 +300,7 @@ returns-4 c =
     let told = c .before .before in
     let judged = told .before .before in
     let whole = judged .before in
-    let at-loop = whole .before .before .before .before .before .before .before .before .before in
+    let at-loop = end-in (whole .before .before) .before in
     answer-refused (text at-loop) (outcome at-loop) _ _ (c .refused4 .ensures) (whole-is whole ∙ verdict-refused _ _ (sym (finished-by (at-loop .loop .h) (at-loop .loop .totals) (at-loop .loop .inv .reads .totalled)) ∙ sym (judged .finish .ensures) ∙ told .w .given .1))
 
 enum-told-3 : tie.Need-enum-told-3 Inv-loop μ-loop
@@ -294,7 +310,7 @@ returns-5 : tie.Need-returns-5 Inv-loop μ-loop
 returns-5 c =
     let judged = c .before .before in
     let whole = judged .before in
-    let at-loop = whole .before .before .before .before .before .before .before .before .before in
+    let at-loop = end-in (whole .before .before) .before in
     rows-accepted (text at-loop) (outcome at-loop) (at-loop .loop .h) (tables at-loop) (at-loop .loop .totals) (at-loop .loop .sources) (at-loop .loop .deliveries) (at-loop .loop .at) (at-loop .loop .inv) (whole-is whole ∙ finished-accepts (at-loop .loop .h) (sym (finished-by (at-loop .loop .h) (at-loop .loop .totals) (at-loop .loop .inv .reads .totalled)) ∙ sym (judged .finish .ensures) ∙ c .enum-told3 .given .1))
 
 add-source-at : tie.Need-add-source-at Inv-loop μ-loop
@@ -315,7 +331,7 @@ returns-6 : tie.Need-returns-6 Inv-loop μ-loop
 returns-6 c =
     let told = c .before .before in
     let tried = told .before .before in
-    let at-loop = tried .before .before .before .before .before .before .before .before in
+    let at-loop = source-in tried .before in
     answer-refused (text at-loop) (outcome at-loop) _ _ (c .refused5 .ensures) (source-turn tried .refuses _ (told .v3 .given .1) _ (at-loop .loop .inv .reads .going))
 
 enum-told-4 : tie.Need-enum-told-4 Inv-loop μ-loop
@@ -342,7 +358,7 @@ array-write-high c =
 add-source-requires : tie.Need-add-source-requires Inv-loop μ-loop
 add-source-requires c κs =
     let taken = c .before .before .before .before .before .before in
-    let at-loop = taken .before .before .before .before .before .before .before .before .before .before in
+    let at-loop = source-in (taken .before .before) .before in
     omega (arith, source-room taken .0, at-loop .loop .inv .reads .totalled .most-generated)
 
 mul-sources : tie.Need-mul-sources Inv-loop μ-loop
@@ -373,7 +389,7 @@ add-h-3 c =
 loop-less-3 : tie.Need-loop-less-3 Inv-loop μ-loop
 loop-less-3 c =
     let taken = c .before .before .before .before .before .before .before .before in
-    let in-loop = taken .before .before .before .before .before .before .before .before .before in
+    let in-loop = source-in (taken .before .before) in
     omega (arith, source-room taken .1, in-loop .loop-test .taken)
 
 loop-again-3 : tie.Need-loop-again-3 Inv-loop μ-loop
@@ -383,7 +399,7 @@ loop-again-3 c =
     let spelled = levelled .before .before in
     let taken = spelled .before .before .before .before in
     let tried = taken .before .before in
-    let at-loop = tried .before .before .before .before .before .before .before .before in
+    let at-loop = source-in tried .before in
     rows-source (text at-loop) (outcome at-loop) (at-loop .loop .h) (tables at-loop) (at-loop .loop .totals) (at-loop .loop .sources) (at-loop .loop .deliveries) (at-loop .loop .at) (at-loop .loop .inv) _ (source-turn tried) (taken .enum-told4 .given .1) _ _ _ _ (spelled .keep-spelling2 .ensures .0) (spelled .keep-spelling2 .ensures .1) (ap (set (at-loop .loop .high) (at-loop .loop .h .nsources)) (levelled .unit-high .ensures)) (summed .add-source .ensures .0) (summed .add-source .ensures .1)
 
 next-line-requires-2 : tie.Need-next-line-requires-2 Inv-loop μ-loop

@@ -67,6 +67,41 @@ Inv-loop6 h n totals i j q₀ q = (q ≤ 32) × (h .ndirects ≤ q) × ((k : ℕ
 abbrev μ-loop6 : tie.MeasureT-loop6
 μ-loop6 h n totals i j q₀ q = 32 - q
 
+-- From each loop to the one before it, and to the start.
+
+abbrev At-sources : Type 0
+At-sources = tie.At-loop Inv-loop μ-loop Inv-loop2 μ-loop2 Inv-loop3 μ-loop3 Inv-loop4 μ-loop4 Inv-loop5 μ-loop5 Inv-loop6 μ-loop6
+
+abbrev At-deliveries : Type 0
+At-deliveries = tie.At-loop2 Inv-loop μ-loop Inv-loop2 μ-loop2 Inv-loop3 μ-loop3 Inv-loop4 μ-loop4 Inv-loop5 μ-loop5 Inv-loop6 μ-loop6
+
+abbrev At-directs : Type 0
+At-directs = tie.At-loop3 Inv-loop μ-loop Inv-loop2 μ-loop2 Inv-loop3 μ-loop3 Inv-loop4 μ-loop4 Inv-loop5 μ-loop5 Inv-loop6 μ-loop6
+
+abbrev At-source-blanks : Type 0
+At-source-blanks = tie.At-loop4 Inv-loop μ-loop Inv-loop2 μ-loop2 Inv-loop3 μ-loop3 Inv-loop4 μ-loop4 Inv-loop5 μ-loop5 Inv-loop6 μ-loop6
+
+abbrev At-delivery-blanks : Type 0
+At-delivery-blanks = tie.At-loop5 Inv-loop μ-loop Inv-loop2 μ-loop2 Inv-loop3 μ-loop3 Inv-loop4 μ-loop4 Inv-loop5 μ-loop5 Inv-loop6 μ-loop6
+
+abbrev start-of : At-sources → tie.Start Inv-loop μ-loop Inv-loop2 μ-loop2 Inv-loop3 μ-loop3 Inv-loop4 μ-loop4 Inv-loop5 μ-loop5 Inv-loop6 μ-loop6
+start-of c = c .before .before .before .before .before
+
+abbrev sources-of : At-deliveries → At-sources
+sources-of c = c .before .before .before
+
+abbrev deliveries-of : At-directs → At-deliveries
+deliveries-of c = c .before .before .before
+
+abbrev directs-of : At-source-blanks → At-directs
+directs-of c = c .before .before .before
+
+abbrev source-blanks-of : At-delivery-blanks → At-source-blanks
+source-blanks-of c = c .before .before
+
+abbrev delivery-blanks-of : tie.At-loop6 Inv-loop μ-loop Inv-loop2 μ-loop2 Inv-loop3 μ-loop3 Inv-loop4 μ-loop4 Inv-loop5 μ-loop5 Inv-loop6 μ-loop6 → At-delivery-blanks
+delivery-blanks-of c = c .before .before
+
 -- What was passed.
 
 few-told : (c : tie.Else1 Inv-loop μ-loop Inv-loop2 μ-loop2 Inv-loop3 μ-loop3 Inv-loop4 μ-loop4 Inv-loop5 μ-loop5 Inv-loop6 μ-loop6) → let start = c .before .before in fewEntries (countsOf (start .args .t1)) ≡ true
@@ -77,41 +112,41 @@ few-told c =
 few : (c : tie.Else1 Inv-loop μ-loop Inv-loop2 μ-loop2 Inv-loop3 μ-loop3 Inv-loop4 μ-loop4 Inv-loop5 μ-loop5 Inv-loop6 μ-loop6) → let start = c .before .before in Few (countsOf (start .args .t1))
 few c = few-from _ (few-told c)
 
-source-is : (c : tie.After-source-given Inv-loop μ-loop Inv-loop2 μ-loop2 Inv-loop3 μ-loop3 Inv-loop4 μ-loop4 Inv-loop5 μ-loop5 Inv-loop6 μ-loop6) → let at-sources = c .before .before .before .before .before .before .before .before .before .before in let start = at-sources .before .before .before .before .before in sourceOwnAt (start .args .t1 .sources) (at-sources .loop .i) ≡ c .source-given .result
+source-is : (c : tie.After-source-given Inv-loop μ-loop Inv-loop2 μ-loop2 Inv-loop3 μ-loop3 Inv-loop4 μ-loop4 Inv-loop5 μ-loop5 Inv-loop6 μ-loop6) → let at-sources = c .before .before .before .before .before .before .before .before .before .before in let start = start-of at-sources in sourceOwnAt (start .args .t1 .sources) (at-sources .loop .i) ≡ c .source-given .result
 source-is c =
     let spelled = c .before .before .before in
     let labelled = spelled .before in
     let label-tried = labelled .before in
     let at-sources = label-tried .before .before .before .before .before in
-    let start = at-sources .before .before .before .before .before in
+    let start = start-of at-sources in
     source-labelled _ (getD (start .args .t1 .sources) (at-sources .loop .i) noSource) _ _ _ _ _ _ _ (sym (label-tried .is-label .ensures) ∙ not-false _ (labelled .if4 .left)) (spelled .spelling-of .ensures) (at-sources .loop .inv .2) (at-sources .loop .inv .3) (c .source-given .ensures)
 
-delivery-is : (c : tie.After-delivery-given Inv-loop μ-loop Inv-loop2 μ-loop2 Inv-loop3 μ-loop3 Inv-loop4 μ-loop4 Inv-loop5 μ-loop5 Inv-loop6 μ-loop6) → let at-deliveries = c .before .before .before .before .before .before .before .before .before .before in let start = at-deliveries .before .before .before .before .before .before .before .before in deliveryOwnAt (start .args .t1 .nsources) (start .args .t1 .deliveries) (at-deliveries .loop2 .j) ≡ c .delivery-given .result
+delivery-is : (c : tie.After-delivery-given Inv-loop μ-loop Inv-loop2 μ-loop2 Inv-loop3 μ-loop3 Inv-loop4 μ-loop4 Inv-loop5 μ-loop5 Inv-loop6 μ-loop6) → let at-deliveries = c .before .before .before .before .before .before .before .before .before .before in let start = start-of (sources-of at-deliveries) in deliveryOwnAt (start .args .t1 .nsources) (start .args .t1 .deliveries) (at-deliveries .loop2 .j) ≡ c .delivery-given .result
 delivery-is c =
     let spelled = c .before .before .before in
     let labelled = spelled .before in
     let label-tried = labelled .before in
     let at-deliveries = label-tried .before .before .before .before .before in
-    let start = at-deliveries .before .before .before .before .before .before .before .before in
+    let start = start-of (sources-of at-deliveries) in
     delivery-labelled _ _ (getD (start .args .t1 .deliveries) (at-deliveries .loop2 .j) noDelivery) _ _ _ _ _ _ _ (sym (label-tried .is-label2 .ensures) ∙ not-false _ (labelled .if7 .left)) (spelled .spelling-of2 .ensures) (at-deliveries .loop2 .inv .2) (at-deliveries .loop2 .inv .3) (c .delivery-given .ensures)
 
-highs : (c : tie.Else3 Inv-loop μ-loop Inv-loop2 μ-loop2 Inv-loop3 μ-loop3 Inv-loop4 μ-loop4 Inv-loop5 μ-loop5 Inv-loop6 μ-loop6) → let at-sources = c .before .before in let start = at-sources .before .before .before .before .before in at-sources .loop .high ≡ highsTo (start .args .t1 .sources) (start .args .t1 .nsources)
+highs : (c : tie.Else3 Inv-loop μ-loop Inv-loop2 μ-loop2 Inv-loop3 μ-loop3 Inv-loop4 μ-loop4 Inv-loop5 μ-loop5 Inv-loop6 μ-loop6) → let at-sources = c .before .before in let start = start-of at-sources in at-sources .loop .high ≡ highsTo (start .args .t1 .sources) (start .args .t1 .nsources)
 highs c =
     let at-sources = c .before .before in
     fillTo-end _ _ _ _ _ (at-sources .loop .inv .0) (c .if3 .left) (at-sources .loop .inv .4)
 
-direct-is : (c : tie.After-direct-given Inv-loop μ-loop Inv-loop2 μ-loop2 Inv-loop3 μ-loop3 Inv-loop4 μ-loop4 Inv-loop5 μ-loop5 Inv-loop6 μ-loop6) → let at-directs = c .before .before .before .before .before .before .before in let start = at-directs .before .before .before .before .before .before .before .before .before .before .before in directOwnAt (start .args .t1) (at-directs .loop3 .q) ≡ c .direct-given .result
+direct-is : (c : tie.After-direct-given Inv-loop μ-loop Inv-loop2 μ-loop2 Inv-loop3 μ-loop3 Inv-loop4 μ-loop4 Inv-loop5 μ-loop5 Inv-loop6 μ-loop6) → let at-directs = c .before .before .before .before .before .before .before in let start = start-of (sources-of (deliveries-of at-directs)) in directOwnAt (start .args .t1) (at-directs .loop3 .q) ≡ c .direct-given .result
 direct-is c =
     let at-directs = c .before .before .before .before .before .before .before in
     let past-sources = at-directs .before .before .before .before in
     sym (direct-same _ _ _ _ _ _ _ _ (highs past-sources) (at-directs .loop3 .inv .2) (at-directs .loop3 .inv .3)) ∙ sym (c .direct-given .ensures)
 
-direct-passes : (c : tie.Else10 Inv-loop μ-loop Inv-loop2 μ-loop2 Inv-loop3 μ-loop3 Inv-loop4 μ-loop4 Inv-loop5 μ-loop5 Inv-loop6 μ-loop6) → let at-directs = c .before .before .before .before .before .before .before .before in let start = at-directs .before .before .before .before .before .before .before .before .before .before .before in directOwnAt (start .args .t1) (at-directs .loop3 .q) ≡ true
+direct-passes : (c : tie.Else10 Inv-loop μ-loop Inv-loop2 μ-loop2 Inv-loop3 μ-loop3 Inv-loop4 μ-loop4 Inv-loop5 μ-loop5 Inv-loop6 μ-loop6) → let at-directs = c .before .before .before .before .before .before .before .before in let start = start-of (sources-of (deliveries-of at-directs)) in directOwnAt (start .args .t1) (at-directs .loop3 .q) ≡ true
 direct-passes c =
     let tried = c .before in
     direct-is tried ∙ not-false _ (c .if10 .left)
 
-its-source : (c : tie.Else10 Inv-loop μ-loop Inv-loop2 μ-loop2 Inv-loop3 μ-loop3 Inv-loop4 μ-loop4 Inv-loop5 μ-loop5 Inv-loop6 μ-loop6) → let at-directs = c .before .before .before .before .before .before .before .before in let start = at-directs .before .before .before .before .before .before .before .before .before .before .before in getD (start .args .t1 .directs) (at-directs .loop3 .q) noDirect .source < 32
+its-source : (c : tie.Else10 Inv-loop μ-loop Inv-loop2 μ-loop2 Inv-loop3 μ-loop3 Inv-loop4 μ-loop4 Inv-loop5 μ-loop5 Inv-loop6 μ-loop6) → let at-directs = c .before .before .before .before .before .before .before .before in let start = start-of (sources-of (deliveries-of at-directs)) in getD (start .args .t1 .directs) (at-directs .loop3 .q) noDirect .source < 32
 its-source c =
     let few-there = c .before .before .before .before .before .before .before .before .before .before .before .before .before .before .before .before .before in
     omega (arith, direct-own _ _ _ _ _ (direct-passes c) .source, few few-there .sources)
@@ -126,17 +161,17 @@ directs-long : (c : tie.Start Inv-loop μ-loop Inv-loop2 μ-loop2 Inv-loop3 μ-l
 directs-long c = search (needs, length-mapped)
 
 -- what the loops summed
-sources-summed : (c : tie.Else3 Inv-loop μ-loop Inv-loop2 μ-loop2 Inv-loop3 μ-loop3 Inv-loop4 μ-loop4 Inv-loop5 μ-loop5 Inv-loop6 μ-loop6) → let at-sources = c .before .before in let start = at-sources .before .before .before .before .before in Totalled (start .args .t1 .sources) (start .args .t1 .nsources) (start .args .t1 .deliveries) 0 (at-sources .loop .totals)
+sources-summed : (c : tie.Else3 Inv-loop μ-loop Inv-loop2 μ-loop2 Inv-loop3 μ-loop3 Inv-loop4 μ-loop4 Inv-loop5 μ-loop5 Inv-loop6 μ-loop6) → let at-sources = c .before .before in let start = start-of at-sources in Totalled (start .args .t1 .sources) (start .args .t1 .nsources) (start .args .t1 .deliveries) 0 (at-sources .loop .totals)
 sources-summed c =
     let at-sources = c .before .before in
-    let start = at-sources .before .before .before .before .before in
+    let start = start-of at-sources in
     let all : at-sources .loop .i ≡ start .args .t1 .nsources = omega (arith, at-sources .loop .inv .0, c .if3 .left) in
     subst (λ i. Totalled (start .args .t1 .sources) i (start .args .t1 .deliveries) 0 (at-sources .loop .totals)) all (at-sources .loop .inv .5)
 
-all-summed : (c : tie.Else6 Inv-loop μ-loop Inv-loop2 μ-loop2 Inv-loop3 μ-loop3 Inv-loop4 μ-loop4 Inv-loop5 μ-loop5 Inv-loop6 μ-loop6) → let at-deliveries = c .before .before in let start = at-deliveries .before .before .before .before .before .before .before .before in Totalled (start .args .t1 .sources) (start .args .t1 .nsources) (start .args .t1 .deliveries) (start .args .t1 .ndeliveries) (at-deliveries .loop2 .totals)
+all-summed : (c : tie.Else6 Inv-loop μ-loop Inv-loop2 μ-loop2 Inv-loop3 μ-loop3 Inv-loop4 μ-loop4 Inv-loop5 μ-loop5 Inv-loop6 μ-loop6) → let at-deliveries = c .before .before in let start = start-of (sources-of at-deliveries) in Totalled (start .args .t1 .sources) (start .args .t1 .nsources) (start .args .t1 .deliveries) (start .args .t1 .ndeliveries) (at-deliveries .loop2 .totals)
 all-summed c =
     let at-deliveries = c .before .before in
-    let start = at-deliveries .before .before .before .before .before .before .before .before in
+    let start = start-of (sources-of at-deliveries) in
     let all : at-deliveries .loop2 .j ≡ start .args .t1 .ndeliveries = omega (arith, at-deliveries .loop2 .inv .0, c .if6 .left) in
     subst (λ j. Totalled (start .args .t1 .sources) (start .args .t1 .nsources) (start .args .t1 .deliveries) j (at-deliveries .loop2 .totals)) all (at-deliveries .loop2 .inv .4)
 
@@ -144,7 +179,7 @@ finished-is : (c : tie.After-finish Inv-loop μ-loop Inv-loop2 μ-loop2 Inv-loop
 finished-is c =
     let past-deliveries = c .before .before .before .before .before .before .before .before .before .before in
     let at-deliveries = past-deliveries .before .before in
-    let start = at-deliveries .before .before .before .before .before .before .before .before in
+    let start = start-of (sources-of at-deliveries) in
     c .finish .ensures ∙ finished-by (start .args .t1) (at-deliveries .loop2 .totals) (all-summed past-deliveries)
 
 few-entries-requires : tie.Need-few-entries-requires Inv-loop μ-loop Inv-loop2 μ-loop2 Inv-loop3 μ-loop3 Inv-loop4 μ-loop4 Inv-loop5 μ-loop5 Inv-loop6 μ-loop6
@@ -187,7 +222,7 @@ returns-3 c =
     let label-tried = c .before in
     let a-source = label-tried .before .before .before in
     let at-sources = a-source .before .before in
-    let start = at-sources .before .before .before .before .before in
+    let start = start-of at-sources in
     fails-valid (start .args .t1) _ (λ p. p .sources) (allTo-fails _ _ (at-sources .loop .i) (a-source .if3 .taken) (source-unlabelled _ (getD (start .args .t1 .sources) (at-sources .loop .i) noSource) _ _ _ (sym (label-tried .is-label .ensures) ∙ not-true _ (c .if4 .taken))))
 
 spelling-of-requires : tie.Need-spelling-of-requires Inv-loop μ-loop Inv-loop2 μ-loop2 Inv-loop3 μ-loop3 Inv-loop4 μ-loop4 Inv-loop5 μ-loop5 Inv-loop6 μ-loop6
@@ -204,7 +239,7 @@ returns-4 c =
     let tried = c .before in
     let a-source = tried .before .before .before .before .before .before .before .before in
     let at-sources = a-source .before .before in
-    let start = at-sources .before .before .before .before .before in
+    let start = start-of at-sources in
     fails-valid (start .args .t1) _ (λ p. p .sources) (allTo-fails _ _ (at-sources .loop .i) (a-source .if3 .taken) (source-is tried ∙ not-true _ (c .if5 .taken)))
 
 keep-spelling-requires : tie.Need-keep-spelling-requires Inv-loop μ-loop Inv-loop2 μ-loop2 Inv-loop3 μ-loop3 Inv-loop4 μ-loop4 Inv-loop5 μ-loop5 Inv-loop6 μ-loop6
@@ -250,7 +285,7 @@ loop-again c =
     let spelled = tried .before .before .before in
     let a-source = spelled .before .before .before .before .before in
     let at-sources = a-source .before .before in
-    let start = at-sources .before .before .before .before .before in
+    let start = start-of at-sources in
     let inv = at-sources .loop .inv in
     let spelling = spelled .spelling-of .ensures in (
       omega (arith, a-source .if3 .taken),
@@ -282,7 +317,7 @@ returns-5 c =
     let label-tried = c .before in
     let a-delivery = label-tried .before .before .before in
     let at-deliveries = a-delivery .before .before in
-    let start = at-deliveries .before .before .before .before .before .before .before .before in
+    let start = start-of (sources-of at-deliveries) in
     fails-valid (start .args .t1) _ (λ p. p .deliveries) (allTo-fails _ _ (at-deliveries .loop2 .j) (a-delivery .if6 .taken) (delivery-unlabelled _ _ (getD (start .args .t1 .deliveries) (at-deliveries .loop2 .j) noDelivery) _ _ _ (sym (label-tried .is-label2 .ensures) ∙ not-true _ (c .if7 .taken))))
 
 spelling-of-requires-2 : tie.Need-spelling-of-requires-2 Inv-loop μ-loop Inv-loop2 μ-loop2 Inv-loop3 μ-loop3 Inv-loop4 μ-loop4 Inv-loop5 μ-loop5 Inv-loop6 μ-loop6
@@ -299,7 +334,7 @@ returns-6 c =
     let tried = c .before in
     let a-delivery = tried .before .before .before .before .before .before .before .before in
     let at-deliveries = a-delivery .before .before in
-    let start = at-deliveries .before .before .before .before .before .before .before .before in
+    let start = start-of (sources-of at-deliveries) in
     fails-valid (start .args .t1) _ (λ p. p .deliveries) (allTo-fails _ _ (at-deliveries .loop2 .j) (a-delivery .if6 .taken) (delivery-is tried ∙ not-true _ (c .if8 .taken)))
 
 keep-spelling-requires-2 : tie.Need-keep-spelling-requires-2 Inv-loop μ-loop Inv-loop2 μ-loop2 Inv-loop3 μ-loop3 Inv-loop4 μ-loop4 Inv-loop5 μ-loop5 Inv-loop6 μ-loop6
@@ -329,7 +364,7 @@ loop2-again c =
     let spelled = tried .before .before .before in
     let a-delivery = spelled .before .before .before .before .before in
     let at-deliveries = a-delivery .before .before in
-    let start = at-deliveries .before .before .before .before .before .before .before .before in
+    let start = start-of (sources-of at-deliveries) in
     let inv = at-deliveries .loop2 .inv in
     let spelling = spelled .spelling-of2 .ensures in (
       omega (arith, a-delivery .if6 .taken),
@@ -364,14 +399,14 @@ returns-7 c =
     let tried = c .before in
     let a-direct = tried .before .before .before .before .before in
     let at-directs = a-direct .before .before in
-    let start = at-directs .before .before .before .before .before .before .before .before .before .before .before in
+    let start = start-of (sources-of (deliveries-of at-directs)) in
     fails-valid (start .args .t1) _ (λ p. p .directs) (allTo-fails _ _ (at-directs .loop3 .q) (a-direct .if9 .taken) (direct-is tried ∙ not-true _ (c .if10 .taken)))
 
 keep-direct-requires : tie.Need-keep-direct-requires Inv-loop μ-loop Inv-loop2 μ-loop2 Inv-loop3 μ-loop3 Inv-loop4 μ-loop4 Inv-loop5 μ-loop5 Inv-loop6 μ-loop6
 keep-direct-requires c κs =
     let passed = c .before .before in
     let at-directs = passed .before .before .before .before .before .before .before .before in
-    let start = at-directs .before .before .before .before .before .before .before .before .before .before .before in
+    let start = start-of (sources-of (deliveries-of at-directs)) in
     let is = ap (λ (ps : List ℕ). getD ps (getD (start .args .t1 .directs) (at-directs .loop3 .q) noDirect .source) 0) (at-directs .loop3 .inv .3) in
     (its-source passed, omega (arith, is, own-total _ _ _ _ _ (direct-passes passed)))
 
@@ -409,7 +444,7 @@ returns-8 c =
     let blank-tried = c .before in
     let in-source-blanks = blank-tried .before .before in
     let at-source-blanks = in-source-blanks .before in
-    let start = at-source-blanks .before .before .before .before .before .before .before .before .before .before .before .before .before .before in
+    let start = start-of (sources-of (deliveries-of (directs-of at-source-blanks))) in
     fails-valid (start .args .t1) _ (λ p. p .sources-rest .blanks (at-source-blanks .loop4 .i) (at-source-blanks .loop4 .inv .1) (omega (arith, in-source-blanks .loop4-test .taken))) (sym (blank-tried .is-blank-source .ensures) ∙ not-true _ (c .if11 .taken))
 
 add-i-2 : tie.Need-add-i-2 Inv-loop μ-loop Inv-loop2 μ-loop2 Inv-loop3 μ-loop3 Inv-loop4 μ-loop4 Inv-loop5 μ-loop5 Inv-loop6 μ-loop6
@@ -446,7 +481,7 @@ returns-9 c =
     let blank-tried = c .before in
     let in-delivery-blanks = blank-tried .before .before in
     let at-delivery-blanks = in-delivery-blanks .before in
-    let start = at-delivery-blanks .before .before .before .before .before .before .before .before .before .before .before .before .before .before .before .before in
+    let start = start-of (sources-of (deliveries-of (directs-of (source-blanks-of at-delivery-blanks)))) in
     fails-valid (start .args .t1) _ (λ p. p .deliveries-rest .blanks (at-delivery-blanks .loop5 .j) (at-delivery-blanks .loop5 .inv .1) (omega (arith, in-delivery-blanks .loop5-test .taken))) (sym (blank-tried .is-blank-delivery .ensures) ∙ not-true _ (c .if12 .taken))
 
 add-j-2 : tie.Need-add-j-2 Inv-loop μ-loop Inv-loop2 μ-loop2 Inv-loop3 μ-loop3 Inv-loop4 μ-loop4 Inv-loop5 μ-loop5 Inv-loop6 μ-loop6
@@ -483,7 +518,7 @@ returns-10 c =
     let blank-tried = c .before in
     let in-direct-blanks = blank-tried .before .before in
     let at-direct-blanks = in-direct-blanks .before in
-    let start = at-direct-blanks .before .before .before .before .before .before .before .before .before .before .before .before .before .before .before .before .before .before in
+    let start = start-of (sources-of (deliveries-of (directs-of (source-blanks-of (delivery-blanks-of at-direct-blanks))))) in
     fails-valid (start .args .t1) _ (λ p. p .directs-rest .blanks (at-direct-blanks .loop6 .q) (at-direct-blanks .loop6 .inv .1) (omega (arith, in-direct-blanks .loop6-test .taken))) (sym (blank-tried .is-blank-direct .ensures) ∙ not-true _ (c .if13 .taken))
 
 add-q-2 : tie.Need-add-q-2 Inv-loop μ-loop Inv-loop2 μ-loop2 Inv-loop3 μ-loop3 Inv-loop4 μ-loop4 Inv-loop5 μ-loop5 Inv-loop6 μ-loop6
