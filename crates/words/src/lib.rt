@@ -277,15 +277,3 @@ pub fn explain_number(number: usize, out: &mut [u8]) -> usize
     let n = put_tail(out, p, number);
     within(n, room)
 }
-
-// Both for C.
-
-#[no_mangle]
-pub extern "C" fn words_explain(s: &[u8], out: &mut [u8]) -> u64 {
-    explain(s, out) as u64
-}
-
-#[no_mangle]
-pub extern "C" fn words_explain_number(number: usize, out: &mut [u8]) -> u64 {
-    explain_number(number, out) as u64
-}
