@@ -16,7 +16,7 @@ use Rattle.rules.specs.Refusals.{Outcome, accepted, refused}
 use Rattle.rules.specs.Sequences.{noDelivery}
 use Rattle.rules.specs.Fields.{Field, got, malformed, byte, byteAt, escape}
 use Rattle.rules.specs.Lines as lines
-use Rattle.rules.specs.Lines.{E, letterOf, line, placesAt}
+use Rattle.rules.specs.Lines.{T, D, E, letterOf, line, placesAt}
 use Rattle.rules.specs.Record as record-of
 use Rattle.rules.specs.Record.{chars, noSource, started, withSource, withDelivery, withDirect}
 use Rattle.rules.specs.Reading.{lineNumber, finished, linesFrom}
@@ -26,28 +26,32 @@ use Rattle.rules.specs.Places.{past, lineStart, labelStart, partStart}
 use Rattle.rules.specs.declared.Label.{Label}
 use Rattle.rules.specs.declared.Source.{Source}
 use Rattle.rules.specs.declared.Delivery.{Delivery}
-use Rattle.rules.specs.declared.Direct.{Direct}
 use Rattle.rules.specs.declared.Hour.{Hour}
 use Rattle.rules.specs.declared.Refusal.{Refusal}
 use Rattle.rules.specs.declared.Refusal.the-variants.{Form}
 use Rattle.rules.specs.declared.Verdict.{Verdict}
 use Rattle.rules.specs.declared.Verdict.the-variants.{Accepted, Refused}
 use Rattle.laws.specs.Answers.{verdict-accepted}
+use Rattle.laws.specs.Choices.{true-not-false}
 use Rattle.roundtrip.specs.Taken.{finished-passed}
 use Rattle.roundtrip.specs.Loop.{Going, goes-malformed, goes-end, goes-past}
 use Rattle.read_fields.specs.Answers.{stepOf}
-use Rattle.line_rules.specs.Tried.{Tables, unitHigh, basisCode, aboveOne}
+use Rattle.read_lines.specs.Answers.{deliveryLine, directLine}
+use Rattle.line_rules.specs.Spellings.{spellingOf}
+use Rattle.line_rules.specs.Tried.{countsOf, Few, nextLine, Tables, unitHigh, basisCode, aboveOne, aboveAll}
 use Rattle.line_rules.specs.Kept.{Kept}
 use Rattle.line_rules.specs.TablesKept.{noTables, kept-started}
-use Rattle.line_rules.specs.Totalled.{noTotals, sourceTotalled, deliveryTotalled, Totalled, totalled-none, totalled-source, totalled-delivery}
+use Rattle.line_rules.specs.Totalled.{noTotals, finishedBy, Totalled, totalled-none, totalled-source, totalled-delivery, finished-by}
+use Rattle.line_rules.specs.declared.Counts.{Counts}
 use Rattle.line_rules.specs.declared.Totals.{Totals}
 use Rattle.deck.specs.Answers.{nowhere, Holds, Placed, Scanned, refusedScan}
-use Rattle.deck.specs.Steps.{endVerdict}
-use Rattle.deck.specs.Turns.{line-got, line-malformed, line-none, SourceTurn, DeliveryTurn, DirectTakes}
+use Rattle.deck.specs.Steps.{keptIf, sourceFrom, deliveryStep, directStep, endVerdict}
+use Rattle.deck.specs.Turns.{line-got, line-malformed, line-none, SourceTurn, DeliveryTurn, DirectTurn, source-at-turn, delivery-at-turn, direct-at-turn}
 use Rattle.deck.specs.declared.Place.{Place}
 use Rattle.deck.specs.declared.ScannedDeck.{ScannedDeck}
 use Rattle.deck.specs.declared.SourceStep.{SourceStep}
 use Rattle.deck.specs.declared.DeliveryStep.{DeliveryStep}
+use Rattle.deck.specs.declared.DirectStep.{DirectStep}
 
 -- Places.
 
@@ -128,9 +132,9 @@ rows-start s losses from first =
     }
 
 -- the loop's start, with the hour that an H line starts
-pub rows-started : (s : List ℕ) (losses from : ℕ) (h : Hour) → from ≡ lineStart s 1 → h ≡ started losses
-    → Rows s (linesFrom (length s) s (started losses) from) h noTables noTotals (replicate 32 nowhere) (replicate 32 nowhere) from
-rows-started s losses from h first e = rw e (rows-start s losses from first)
+pub rows-started : (s : List ℕ) (losses from : ℕ) (h : Hour) (u : Totals) → from ≡ lineStart s 1 → h ≡ started losses → u ≡ noTotals
+    → Rows s (linesFrom (length s) s (started losses) from) h noTables u (replicate 32 nowhere) (replicate 32 nowhere) from
+rows-started s losses from h u first e ue = rw (e, ue) (rows-start s losses from first)
 
 scanned-refused : (s : List ℕ) (o : Outcome Hour) (r : Refusal) → o ≡ refused r → Scanned s o (refusedScan r)
 scanned-refused s o r e = rw e (record { answer = refl; sources = placed-none s _ _ (λ i. refl); deliveries = placed-none s _ _ (λ i. refl) })
@@ -138,96 +142,122 @@ scanned-refused s o r e = rw e (record { answer = refl; sources = placed-none s 
 pub answer-refused : (s : List ℕ) (o : Outcome Hour) (r : Refusal) (x : ScannedDeck) → x ≡ refusedScan r → o ≡ refused r → Scanned s o x
 answer-refused s o r x e k = subst (Scanned s o) (sym e) (scanned-refused s o r k)
 
+-- the verdict on the deck where it ends, and the hour where it is taken
+pub record Whole (o : Outcome Hour) (h : Hour) (v : Verdict) : Type 0 where
+  pub verdict : v ≡ verdictOf o
+  pub hour : v ≡ Accepted → o ≡ accepted h
+
+whole-refused : (o : Outcome Hour) (h : Hour) (r : Refusal) → o ≡ refused r → Whole o h (Refused r)
+whole-refused o h r e = record { verdict = rw e; hour = λ k. let z : _≡_ {A = ℕ} 0 1 = cc in absurd (omega arith) }
+
+-- an hour that passes 10 and 11 is the deck's
+whole-finished : (o : Outcome Hour) (h : Hour) → o ≡ finished h → Whole o h (verdictOf (finished h))
+whole-finished o h e =
+    record { verdict = rw e; hour = λ k. let a = verdict-accepted (finished h) k in e ∙ a .1 ∙ ap accepted (sym (finished-passed h (a .0) (a .1) .same)) }
+
 -- the sources and the deliveries before the one that is set
 set-before : {A : Type 0} (xs : List A) (n : ℕ) (x default : A) (i : ℕ) → i < n → getD (set xs n x) i default ≡ getD xs i default
 set-before xs n x default i l = getD-set-other xs n i x default (λ e. omega arith)
 
-module _ (s : List ℕ) (o : Outcome Hour) (h : Hour) (t : Tables) (u : Totals) (at : ℕ) (w : Reads s o h t u at) where
-  -- One entry more, set in the tables and added to the totals.
+-- What a line's contract tells of the totals and of the tables after it.
 
-  pub reads-source : (r : SourceStep) → SourceTurn s h t at r → r .verdict ≡ Accepted → (slo shi high : List ℕ) (v : Totals) → slo ≡ set (t .slo) (h .nsources) (r .spelling .lo)
-      → shi ≡ set (t .shi) (h .nsources) (r .spelling .hi) → high ≡ set (t .high) (h .nsources) (unitHigh (r .entry .plant)) → v ≡ sourceTotalled u (r .entry .plant) → v .generated ≤ u .generated + aboveOne
-      → Reads s o (withSource h (r .entry))
-      (record { slo = slo; shi = shi; tlo = t .tlo; thi = t .thi; high = high; based = t .based; percents = t .percents }) v (r .next)
-  reads-source r e a slo shi high v le hie he ve most =
+abbrev pub SourceKept : Counts → Tables → Totals → SourceStep → List ℕ → List ℕ → List ℕ → Type 0
+SourceKept n t u r slo shi high =
+    (r .totals .generated ≤ u .generated + aboveOne)
+    × ((slo ≡ keptIf (r .verdict) (t .slo) (n .sources) (spellingOf (r .entry .label) .lo))
+    × ((shi ≡ keptIf (r .verdict) (t .shi) (n .sources) (spellingOf (r .entry .label) .hi)) × (high ≡ keptIf (r .verdict) (t .high) (n .sources) (unitHigh (r .entry .plant)))))
+
+abbrev pub DeliveryKept : Counts → Tables → Totals → DeliveryStep → List ℕ → List ℕ → Type 0
+DeliveryKept n t u r tlo thi =
+    (r .totals .delivered ≤ u .delivered + aboveOne)
+    × ((tlo ≡ keptIf (r .verdict) (t .tlo) (n .deliveries) (spellingOf (r .entry .label) .lo)) × (thi ≡ keptIf (r .verdict) (t .thi) (n .deliveries) (spellingOf (r .entry .label) .hi)))
+
+abbrev pub DirectKept : Tables → DirectStep → List ℕ → List ℕ → Type 0
+DirectKept t r based percents =
+    (based ≡ keptIf (r .verdict) (t .based) (r .entry .source) (basisCode (r .entry .basis)))
+    × (percents ≡ keptIf (r .verdict) (t .percents) (r .entry .source) (getD (t .percents) (r .entry .source) 0 + r .entry .percent))
+
+module _ {s : List ℕ} {o : Outcome Hour} {h : Hour} {t : Tables} {u : Totals} {at : ℕ} (w : Reads s o h t u at) {n : Counts} (ne : n ≡ countsOf h) where
+  -- What the line at hand asks.
+
+  pub few : Few n
+  few = subst Few (sym ne) (w .kept .few)
+
+  pub generated-most : u .generated ≤ aboveAll
+  generated-most = omega (arith, w .totalled .most-generated, w .kept .few .sources)
+
+  pub delivered-most : u .delivered ≤ aboveAll
+  delivered-most = omega (arith, w .totalled .most-delivered, w .kept .few .deliveries)
+
+  -- The line at hand.
+
+  pub direct-turn : (r : DirectStep) → r ≡ directStep s n t (directLine (placesAt s (at + 1) D)) → byte s at ≡ 68 → DirectTurn s h t at r
+  direct-turn r e b = subst (DirectTurn s h t at) (sym (e ∙ ap (λ (n : Counts). directStep s n t (directLine (placesAt s (at + 1) D))) ne)) (direct-at-turn s h t (w .kept) at b)
+
+  pub delivery-turn : (r : DeliveryStep) → r ≡ deliveryStep s n u (t .tlo) (t .thi) (deliveryLine (placesAt s (at + 1) T)) → byte s at ≡ 84 → DeliveryTurn s h t u at r
+  delivery-turn r e b =
+      subst (DeliveryTurn s h t u at) (sym (e ∙ ap (λ (n : Counts). deliveryStep s n u (t .tlo) (t .thi) (deliveryLine (placesAt s (at + 1) T))) ne)) (delivery-at-turn s h t u (w .kept) at b)
+
+  pub source-turn : (r : SourceStep) (b : ℕ) → r ≡ sourceFrom s (at + 1) b n u (t .slo) (t .shi) → byte s at ≡ b → (b ≡ 68 → ⊥) → (b ≡ 84 → ⊥) → (b ≡ 69 → ⊥) → SourceTurn s h t u at r
+  source-turn r b e be d d′ d″ =
+      subst (SourceTurn s h t u at) (sym (e ∙ ap (λ (n : Counts). sourceFrom s (at + 1) b n u (t .slo) (t .shi)) ne)) (source-at-turn s h t u (w .kept) at b be d d′ d″)
+
+  -- One entry more.
+
+  pub reads-source : (r : SourceStep) → SourceTurn s h t u at r → r .verdict ≡ Accepted → (slo shi high : List ℕ) → SourceKept n t u r slo shi high
+      → Reads s o (withSource h (r .entry)) (record { slo = slo; shi = shi; tlo = t .tlo; thi = t .thi; high = high; based = t .based; percents = t .percents }) (r .totals) (r .next)
+  reads-source r e a slo shi high told =
       let k = e .takes a in
       record {
         going = k .goes o (w .going);
-        kept = rw (le, hie, he, k .spelled) (k .kept);
-        totalled = totalled-source (h .sources) (h .nsources) (h .deliveries) (h .ndeliveries) u (w .totalled) (set (h .sources) (h .nsources) (r .entry)) (r .entry) v
-            (set-before (h .sources) (h .nsources) (r .entry) noSource) (getD-set-same (h .sources) (h .nsources) (r .entry) noSource (omega (arith, k .room, w .kept .sources-size))) ve most;
+        kept = rw (told .1 .0, told .1 .1 .0, told .1 .1 .1, a, ne) (k .kept);
+        totalled = totalled-source (h .sources) (h .nsources) (h .deliveries) (h .ndeliveries) u (w .totalled) (set (h .sources) (h .nsources) (r .entry)) (r .entry) (r .totals)
+            (set-before (h .sources) (h .nsources) (r .entry) noSource) (getD-set-same (h .sources) (h .nsources) (r .entry) noSource (omega (arith, k .room, w .kept .sources-size))) (k .totalled) (told .0);
       }
 
-  pub reads-delivery : (r : DeliveryStep) → DeliveryTurn s h t at r → r .verdict ≡ Accepted → (tlo thi : List ℕ) (v : Totals) → tlo ≡ set (t .tlo) (h .ndeliveries) (r .spelling .lo)
-      → thi ≡ set (t .thi) (h .ndeliveries) (r .spelling .hi) → v ≡ deliveryTotalled u (r .entry) → v .delivered ≤ u .delivered + aboveOne
-      → Reads s o (withDelivery h (r .entry))
-      (record { slo = t .slo; shi = t .shi; tlo = tlo; thi = thi; high = t .high; based = t .based; percents = t .percents }) v (r .next)
-  reads-delivery r e a tlo thi v le hie ve most =
+  pub reads-delivery : (r : DeliveryStep) → DeliveryTurn s h t u at r → r .verdict ≡ Accepted → (tlo thi : List ℕ) → DeliveryKept n t u r tlo thi
+      → Reads s o (withDelivery h (r .entry)) (record { slo = t .slo; shi = t .shi; tlo = tlo; thi = thi; high = t .high; based = t .based; percents = t .percents }) (r .totals) (r .next)
+  reads-delivery r e a tlo thi told =
       let k = e .takes a in
       record {
         going = k .goes o (w .going);
-        kept = rw (le, hie, k .spelled) (k .kept);
-        totalled = totalled-delivery (h .sources) (h .nsources) (h .deliveries) (h .ndeliveries) u (w .totalled) (set (h .deliveries) (h .ndeliveries) (r .entry)) (r .entry) v
-            (set-before (h .deliveries) (h .ndeliveries) (r .entry) noDelivery) (getD-set-same (h .deliveries) (h .ndeliveries) (r .entry) noDelivery (omega (arith, k .room, w .kept .deliveries-size))) ve most;
+        kept = rw (told .1 .0, told .1 .1, a, ne) (k .kept);
+        totalled = totalled-delivery (h .sources) (h .nsources) (h .deliveries) (h .ndeliveries) u (w .totalled) (set (h .deliveries) (h .ndeliveries) (r .entry)) (r .entry) (r .totals)
+            (set-before (h .deliveries) (h .ndeliveries) (r .entry) noDelivery) (getD-set-same (h .deliveries) (h .ndeliveries) (r .entry) noDelivery (omega (arith, k .room, w .kept .deliveries-size))) (k .totalled) (told .0);
       }
 
-  pub reads-direct : (y : Direct) (next : ℕ) → DirectTakes s h t at y next → (based percents : List ℕ) → based ≡ set (t .based) (y .source) (basisCode (y .basis))
-      → percents ≡ set (t .percents) (y .source) (getD (t .percents) (y .source) 0 + y .percent)
-      → Reads s o (withDirect h y) (record { slo = t .slo; shi = t .shi; tlo = t .tlo; thi = t .thi; high = t .high; based = based; percents = percents }) u next
-  reads-direct y next k based percents be pe = record { going = k .goes o (w .going); kept = rw (be, pe) (k .kept); totalled = w .totalled }
+  pub reads-direct : (r : DirectStep) → DirectTurn s h t at r → r .verdict ≡ Accepted → (based percents : List ℕ) → DirectKept t r based percents
+      → Reads s o (withDirect h (r .entry)) (record { slo = t .slo; shi = t .shi; tlo = t .tlo; thi = t .thi; high = t .high; based = based; percents = percents }) u (r .next)
+  reads-direct r e a based percents told =
+      let k = e .takes a in
+      record { going = k .goes o (w .going); kept = rw (told .0, told .1, a) (k .kept); totalled = w .totalled }
 
   -- Ways out.
 
-  pub reads-ended : length s ≤ at → o ≡ refused (Form (lineNumber h))
+  pub reads-ended : length s ≤ at → o ≡ refused (Form (nextLine n))
   unfolding lines.letterOf
-  reads-ended le = goes-malformed s h at o (w .going) (line-none s at (rw (List·getD-eq-default s 0 le)))
+  reads-ended le = goes-malformed s h at o (w .going) (line-none s at (rw (List·getD-eq-default s 0 le))) ∙ ap (λ (n : Counts). refused (Form (nextLine n))) (sym ne)
 
-  -- at E: it, or what stands after it, refuses the deck, or the hour is whole
-  end-refuses : byte s at ≡ 69 → (r : Refusal) → endVerdict (length s) (lineNumber h) (stepOf (byteAt s (at + 1) 10)) ≡ Refused r → o ≡ refused r
+  -- at E: it, or what stands after it, refuses the deck, or 10 and 11 have the verdict on the hour
+  pub reads-whole : byte s at ≡ 69 → (losses : ℕ) → losses ≡ h .losses → (v : Verdict) → v ≡ endVerdict (length s) (nextLine n) (finishedBy n losses u) (stepOf (byteAt s (at + 1) 10)) → Whole o h v
   unfolding lines.letterOf lines.placesAt lines.fieldsAt
-  end-refuses be r = go (byteAt s (at + 1) 10) refl
+  reads-whole be losses le v ve = rw (ve, ne, le, finished-by h u (w .totalled)) (go (byteAt s (at + 1) 10) refl)
     where
       b : letterOf (byte s at) ≡ some E
       b = ap letterOf be
 
-      past : (next : ℕ) → byteAt s (at + 1) 10 ≡ got tt next → (z : Bool) → eqb next (length s) ≡ z
-          → (if z then Accepted else Refused (Form (lineNumber h + 1))) ≡ Refused r → o ≡ refused r
-      past next e true ze k = let z : _≡_ {A = ℕ} 0 1 = cc in absurd (omega arith)
-      past next e false ze k =
-          let is : Form (lineNumber h + 1) ≡ r = cc in
-          goes-past s h at o (w .going) (line E tt) next (line-got s at E b tt next (rw e)) refl (λ q. let y : true ≡ false = sym (eq-eqb next (length s) q) ∙ ze in let z : _≡_ {A = ℕ} 0 1 = cc in omega arith)
-          ∙ ap refused is
+      past : (next : ℕ) → byteAt s (at + 1) 10 ≡ got tt next → (z : Bool) → eqb next (length s) ≡ z → Whole o h (if z then verdictOf (finished h) else Refused (Form (lineNumber h + 1)))
+      past next e true ze = whole-finished o h (goes-end s h at o (w .going) (line E tt) next (line-got s at E b tt next (rw e)) refl (eqb-true next (length s) ze))
+      past next e false ze =
+          whole-refused o h _
+          (goes-past s h at o (w .going) (line E tt) next (line-got s at E b tt next (rw e)) refl (λ q. true-not-false (sym (eq-eqb next (length s) q) ∙ ze)))
 
-      go : (x : Field (Unit {0})) → byteAt s (at + 1) 10 ≡ x → endVerdict (length s) (lineNumber h) (stepOf x) ≡ Refused r → o ≡ refused r
-      go (got u next) e k = past next e (eqb next (length s)) refl k
-      go malformed e k = let is : Form (lineNumber h) ≡ r = cc in goes-malformed s h at o (w .going) (line-malformed s at E b (rw e)) ∙ ap refused is
-
-  end-finishes : byte s at ≡ 69 → endVerdict (length s) (lineNumber h) (stepOf (byteAt s (at + 1) 10)) ≡ Accepted → o ≡ finished h
-  unfolding lines.letterOf lines.placesAt lines.fieldsAt
-  end-finishes be = go (byteAt s (at + 1) 10) refl
-    where
-      b : letterOf (byte s at) ≡ some E
-      b = ap letterOf be
-
-      last : (next : ℕ) → byteAt s (at + 1) 10 ≡ got tt next → (z : Bool) → eqb next (length s) ≡ z
-          → (if z then Accepted else Refused (Form (lineNumber h + 1))) ≡ Accepted → o ≡ finished h
-      last next e true ze k = goes-end s h at o (w .going) (line E tt) next (line-got s at E b tt next (rw e)) refl (eqb-true next (length s) ze)
-      last next e false ze k = let z : _≡_ {A = ℕ} 0 1 = cc in absurd (omega arith)
-
-      go : (x : Field (Unit {0})) → byteAt s (at + 1) 10 ≡ x → endVerdict (length s) (lineNumber h) (stepOf x) ≡ Accepted → o ≡ finished h
-      go (got u next) e k = last next e (eqb next (length s)) refl k
-      go malformed e k = let z : _≡_ {A = ℕ} 0 1 = cc in absurd (omega arith)
-
-  -- the same of the code's verdict on it
-  module _ (be : byte s at ≡ 69) (n : ℕ) (ne : n ≡ lineNumber h) (v : Verdict) (ve : v ≡ endVerdict (length s) n (stepOf (byteAt s (at + 1) 10))) where
-    pub end-refused : (r : Refusal) → v ≡ Refused r → o ≡ refused r
-    end-refused r k = end-refuses be r (rw (← ne) (sym ve ∙ k))
-
-    pub end-finished : v ≡ Accepted → o ≡ finished h
-    end-finished k = end-finishes be (rw (← ne) (sym ve ∙ k))
+      go : (x : Field (Unit {0})) → byteAt s (at + 1) 10 ≡ x → Whole o h (endVerdict (length s) (lineNumber h) (verdictOf (finished h)) (stepOf x))
+      go (got y next) e = past next e (eqb next (length s)) refl
+      go malformed e = whole-refused o h _ (goes-malformed s h at o (w .going) (line-malformed s at E b (rw e)))
 
 -- the same with places
-module _ (s : List ℕ) (o : Outcome Hour) (h : Hour) (t : Tables) (u : Totals) (ps qs : List Place) (at : ℕ) (w : Rows s o h t u ps qs at) where
+module _ {s : List ℕ} {o : Outcome Hour} {h : Hour} {t : Tables} {u : Totals} {ps qs : List Place} {at : ℕ} (w : Rows s o h t u ps qs at) where
   -- the line after this one, by the hour after it
   line-after : (next : ℕ) (after : Hour) → next ≡ at + past 10 (drop at s) → lineNumber after ≡ lineNumber h + 1 → next ≡ lineStart s (lineNumber after - 1)
   unfolding places.lineStart
@@ -242,50 +272,41 @@ module _ (s : List ℕ) (o : Outcome Hour) (h : Hour) (t : Tables) (u : Totals) 
       let n : lineNumber h - 1 ≡ k = omega (arith, order) in
       rw (ne-eqb (length text) 0 (λ z. omega arith)) (e ∙ ap (λ (m : ℕ). m + past 34 (drop m s)) (w .line ∙ ap (lineStart s) n))
 
-  pub rows-source : (r : SourceStep) → SourceTurn s h t at r → r .verdict ≡ Accepted → (slo shi high : List ℕ) (v : Totals) → slo ≡ set (t .slo) (h .nsources) (r .spelling .lo)
-      → shi ≡ set (t .shi) (h .nsources) (r .spelling .hi) → high ≡ set (t .high) (h .nsources) (unitHigh (r .entry .plant)) → v ≡ sourceTotalled u (r .entry .plant) → v .generated ≤ u .generated + aboveOne
-      → Rows s o (withSource h (r .entry))
-      (record { slo = slo; shi = shi; tlo = t .tlo; thi = t .thi; high = high; based = t .based; percents = t .percents }) v
+  pub rows-source : {n : Counts} → n ≡ countsOf h → (r : SourceStep) → SourceTurn s h t u at r → r .verdict ≡ Accepted → (slo shi high : List ℕ) → SourceKept n t u r slo shi high
+      → Rows s o (withSource h (r .entry)) (record { slo = slo; shi = shi; tlo = t .tlo; thi = t .thi; high = high; based = t .based; percents = t .percents }) (r .totals)
       (set ps (h .nsources) (r .place)) qs (r .next)
-  rows-source r e a slo shi high v le hie he ve most =
+  rows-source ne r e a slo shi high told =
       let k = e .takes a in
       record {
-        reads = reads-source s o h t u at (w .reads) r e a slo shi high v le hie he ve most;
+        reads = reads-source (w .reads) ne r e a slo shi high told;
         line = line-after (r .next) (withSource h (r .entry)) (k .ends) (omega arith);
         sources = placed-more s (λ (x : Source). x .label) noSource (h .sources) (h .nsources) (r .entry) _ ps (r .place) (k .room) (w .reads .kept .sources-size) (k .holds)
             (label-here (h .nsources + 1) (r .place .from) (escape (chars (r .entry .label))) (k .ordered) (k .starts) (k .some)) (w .sources);
         deliveries = placed-still s _ _ _ qs (λ j. rw (le-ltb j (h .ndeliveries) (omega (arith, k .ordered)))) (w .deliveries);
       }
 
-  pub rows-delivery : (r : DeliveryStep) → DeliveryTurn s h t at r → r .verdict ≡ Accepted → (tlo thi : List ℕ) (v : Totals) → tlo ≡ set (t .tlo) (h .ndeliveries) (r .spelling .lo)
-      → thi ≡ set (t .thi) (h .ndeliveries) (r .spelling .hi) → v ≡ deliveryTotalled u (r .entry) → v .delivered ≤ u .delivered + aboveOne
-      → Rows s o (withDelivery h (r .entry))
-      (record { slo = t .slo; shi = t .shi; tlo = tlo; thi = thi; high = t .high; based = t .based; percents = t .percents }) v
+  pub rows-delivery : {n : Counts} → n ≡ countsOf h → (r : DeliveryStep) → DeliveryTurn s h t u at r → r .verdict ≡ Accepted → (tlo thi : List ℕ) → DeliveryKept n t u r tlo thi
+      → Rows s o (withDelivery h (r .entry)) (record { slo = t .slo; shi = t .shi; tlo = tlo; thi = thi; high = t .high; based = t .based; percents = t .percents }) (r .totals)
       ps (set qs (h .ndeliveries) (r .place)) (r .next)
-  rows-delivery r e a tlo thi v le hie ve most =
+  rows-delivery ne r e a tlo thi told =
       let k = e .takes a in
       record {
-        reads = reads-delivery s o h t u at (w .reads) r e a tlo thi v le hie ve most;
+        reads = reads-delivery (w .reads) ne r e a tlo thi told;
         line = line-after (r .next) (withDelivery h (r .entry)) (k .ends) (omega arith);
         sources = w .sources;
         deliveries = placed-more s (λ (x : Delivery). x .label) noDelivery (h .deliveries) (h .ndeliveries) (r .entry) _ qs (r .place) (k .room) (w .reads .kept .deliveries-size) (k .holds)
             (label-here (h .nsources + h .ndeliveries + 1) (r .place .from) (escape (chars (r .entry .label))) (k .ordered) (k .starts) (k .some)) (w .deliveries);
       }
 
-  pub rows-direct : (y : Direct) (next : ℕ) → DirectTakes s h t at y next → (based percents : List ℕ) → based ≡ set (t .based) (y .source) (basisCode (y .basis))
-      → percents ≡ set (t .percents) (y .source) (getD (t .percents) (y .source) 0 + y .percent)
-      → Rows s o (withDirect h y) (record { slo = t .slo; shi = t .shi; tlo = t .tlo; thi = t .thi; high = t .high; based = based; percents = percents }) u ps qs next
-  rows-direct y next k based percents be pe =
+  pub rows-direct : {n : Counts} → n ≡ countsOf h → (r : DirectStep) → DirectTurn s h t at r → r .verdict ≡ Accepted → (based percents : List ℕ) → DirectKept t r based percents
+      → Rows s o (withDirect h (r .entry)) (record { slo = t .slo; shi = t .shi; tlo = t .tlo; thi = t .thi; high = t .high; based = based; percents = percents }) u ps qs (r .next)
+  rows-direct ne r e a based percents told =
       record {
-        reads = reads-direct s o h t u at (w .reads) y next k based percents be pe;
-        line = line-after next (withDirect h y) (k .ends) (omega arith);
+        reads = reads-direct (w .reads) ne r e a based percents told;
+        line = line-after (r .next) (withDirect h (r .entry)) (e .takes a .ends) (omega arith);
         sources = w .sources;
         deliveries = w .deliveries;
       }
 
-  pub rows-accepted : o ≡ accepted h → Scanned s o (record { verdict = Accepted; hour = h; sources = ps; deliveries = qs })
-  rows-accepted e = rw e (record { answer = refl; sources = w .sources; deliveries = w .deliveries })
-
--- an hour that passes 10 and 11 is the deck's
-pub finished-accepts : (h : Hour) → verdictOf (finished h) ≡ Accepted → finished h ≡ accepted h
-finished-accepts h v = let a = verdict-accepted (finished h) v in a .1 ∙ ap accepted (sym (finished-passed h (a .0) (a .1) .same))
+  pub rows-accepted : (v : Verdict) → Whole o h v → v ≡ Accepted → Scanned s o (record { verdict = v; hour = h; sources = ps; deliveries = qs })
+  rows-accepted v e a = rw (a, e .hour a) (record { answer = refl; sources = w .sources; deliveries = w .deliveries })

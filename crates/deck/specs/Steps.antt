@@ -1,17 +1,21 @@
 -- What the line at hand comes to, tried on the counts of the hour so far and on the tables kept beside it.
+use mathlib.Core.Path.{_≡_}
 use mathlib.Core.Bool.{Bool, true, false}
 use mathlib.Core.List.{List}
 use Prim.Native.Nat.{ℕ, _+_}
 use lib.Dec.{eqb}
+use lib.ListN.{set}
 use Rattle.rules.specs.Words.{if_then_else_}
 use Rattle.rules.specs.Answers.{verdictOf}
 use Rattle.rules.specs.Fields as fields
 use Rattle.rules.specs.Fields.{charsAt}
 use Rattle.rules.specs.Lines.{U, P, F, placesAt}
-use Rattle.rules.specs.Record.{labelOf, blankSource, blankDelivery}
+use Rattle.rules.specs.Record.{labelOf, blankSource, blankDelivery, blankDirect}
+use Rattle.rules.specs.declared.Label.{Label}
 use Rattle.rules.specs.declared.Plant.{Plant}
 use Rattle.rules.specs.declared.Plant.the-variants.{Unit as IsUnit, Purchase as IsPurchase, Fixed as IsFixed}
 use Rattle.rules.specs.declared.Basis.{Basis}
+use Rattle.rules.specs.declared.Delivery.{Delivery}
 use Rattle.rules.specs.declared.Refusal.{Refusal}
 use Rattle.rules.specs.declared.Refusal.the-variants.{Form}
 use Rattle.rules.specs.declared.Verdict.{Verdict}
@@ -34,27 +38,36 @@ use Rattle.ranges.specs.declared.JudgedUnit.{JudgedUnit}
 use Rattle.ranges.specs.declared.JudgedUnit.the-variants.{Inside, Outside}
 use Rattle.line_rules.specs.Spellings.{spellingOf}
 use Rattle.line_rules.specs.Tried.{entryOf, nextLine, sourceTried, deliveryTried, Tables, directTried}
+use Rattle.line_rules.specs.Totalled.{noTotals, sourceTotalled, deliveryTotalled}
 use Rattle.line_rules.specs.declared.Counts.{Counts}
-use Rattle.line_rules.specs.declared.Entry.the-variants.{Unnamed}
+use Rattle.line_rules.specs.declared.Entry.{Entry}
+use Rattle.line_rules.specs.declared.Entry.the-variants.{Named, Unnamed}
+use Rattle.line_rules.specs.declared.Spelling.{Spelling}
+use Rattle.line_rules.specs.declared.Totals.{Totals}
 use Rattle.deck.specs.declared.SourceLine.{SourceLine}
 use Rattle.deck.specs.declared.SourceLine.the-variants.{Read as SourceRead, Malformed as NoSource}
 use Rattle.deck.specs.declared.SourceStep.{SourceStep}
 use Rattle.deck.specs.declared.DeliveryStep.{DeliveryStep}
 use Rattle.deck.specs.declared.DirectStep.{DirectStep}
 
+-- A table after a line: a number more in it where the line is taken, as it was where the line is refused.
+abbrev pub keptIf : Verdict → List ℕ → ℕ → ℕ → List ℕ
+keptIf Accepted xs i x = set xs i x
+keptIf (Refused r) xs i x = xs
+
 -- Source lines.
 
 abbrev pub sourceRefused : Refusal → SourceStep
-sourceRefused r = record { verdict = Refused r; entry = blankSource; spelling = record { lo = 0; hi = 0 }; place = record { from = 0; upto = 0 }; next = 0 }
+sourceRefused r = record { verdict = Refused r; entry = blankSource; place = record { from = 0; upto = 0 }; totals = noTotals; next = 0 }
 
 -- a source whose numbers are in their ranges or not, and whose label stands at a place
-unfoldable pub sourceStep : List ℕ → Counts → List ℕ → List ℕ → Bool → Plant → fields.Place → ℕ → SourceStep
-sourceStep s n lo hi inRange plant p next =
+unfoldable pub sourceStep : List ℕ → Counts → Totals → List ℕ → List ℕ → Bool → Plant → fields.Place → ℕ → SourceStep
+sourceStep s n u lo hi inRange plant p next =
     record {
       verdict = verdictOf (sourceTried n inRange plant (spellingOf (labelOf (charsAt s p))) lo hi);
       entry = record { plant = plant; label = labelOf (charsAt s p) };
-      spelling = spellingOf (labelOf (charsAt s p));
       place = record { from = p .from; upto = p .upto };
+      totals = sourceTotalled u plant;
       next = next;
     }
 
@@ -83,9 +96,9 @@ plantFrom s at letter =
     if eqb letter 70 then fixedSource (fixedLine (placesAt s at F)) else
     NoSource
 
-module _ (s : List ℕ) (n : Counts) (lo hi : List ℕ) where
+module _ (s : List ℕ) (n : Counts) (u : Totals) (lo hi : List ℕ) where
   abbrev pub lineStep : SourceLine → SourceStep
-  lineStep (SourceRead inRange plant from upto next) = sourceStep s n lo hi inRange plant (record { from = from; upto = upto }) next
+  lineStep (SourceRead inRange plant from upto next) = sourceStep s n u lo hi inRange plant (record { from = from; upto = upto }) next
   lineStep NoSource = sourceRefused (Form (nextLine n))
 
   -- 2 or 3 where no unit is made, whatever stands for it
@@ -101,46 +114,84 @@ module _ (s : List ℕ) (n : Counts) (lo hi : List ℕ) where
   abbrev pub fixedStep : FixedLine → SourceStep
   fixedStep x = lineStep (fixedSource x)
 
-abbrev pub sourceFrom : List ℕ → ℕ → ℕ → Counts → List ℕ → List ℕ → SourceStep
-sourceFrom s at letter n lo hi = lineStep s n lo hi (plantFrom s at letter)
+abbrev pub sourceFrom : List ℕ → ℕ → ℕ → Counts → Totals → List ℕ → List ℕ → SourceStep
+sourceFrom s at letter n u lo hi = lineStep s n u lo hi (plantFrom s at letter)
 
 -- T lines.
 
 abbrev pub deliveryRefused : Refusal → DeliveryStep
-deliveryRefused r = record { verdict = Refused r; entry = blankDelivery; spelling = record { lo = 0; hi = 0 }; place = record { from = 0; upto = 0 }; next = 0 }
+deliveryRefused r = record { verdict = Refused r; entry = blankDelivery; place = record { from = 0; upto = 0 }; totals = noTotals; next = 0 }
 
-unfoldable pub deliveryTook : List ℕ → Counts → List ℕ → List ℕ → ℕ → ℕ → ℕ → ℕ → fields.Place → ℕ → DeliveryStep
-deliveryTook s n lo hi sequence kind block mwh p next =
+unfoldable pub deliveryTook : Counts → Totals → List ℕ → List ℕ → Delivery → fields.Place → ℕ → DeliveryStep
+deliveryTook n u lo hi x p next =
     record {
-      verdict = verdictOf (deliveryTried n (deliveryInside sequence kind block mwh) (spellingOf (labelOf (charsAt s p))) lo hi);
-      entry = record { sequence = record { 0 = sequence }; kind = kind; block = block; mwh = mwh; label = labelOf (charsAt s p) };
-      spelling = spellingOf (labelOf (charsAt s p));
+      verdict = verdictOf (deliveryTried n (deliveryInside (x .sequence .0) (x .kind) (x .block) (x .mwh)) (spellingOf (x .label)) lo hi);
+      entry = x;
       place = record { from = p .from; upto = p .upto };
+      totals = deliveryTotalled u x;
       next = next;
     }
 
-abbrev pub deliveryStep : List ℕ → Counts → List ℕ → List ℕ → DeliveryLine → DeliveryStep
-deliveryStep s n lo hi (DeliveryRead sequence kind block mwh from upto next) =
-    deliveryTook s n lo hi sequence kind block mwh (record { from = from; upto = upto }) next
-deliveryStep s n lo hi NoDelivery = deliveryRefused (Form (nextLine n))
+abbrev pub deliveryStep : List ℕ → Counts → Totals → List ℕ → List ℕ → DeliveryLine → DeliveryStep
+deliveryStep s n u lo hi (DeliveryRead sequence kind block mwh from upto next) =
+    let p : fields.Place = record { from = from; upto = upto } in
+    deliveryTook n u lo hi (record { sequence = record { 0 = sequence }; kind = kind; block = block; mwh = mwh; label = labelOf (charsAt s p) }) p next
+deliveryStep s n u lo hi NoDelivery = deliveryRefused (Form (nextLine n))
 
 -- D lines.
 
+abbrev pub directRefused : Refusal → DirectStep
+directRefused r = record { verdict = Refused r; entry = blankDirect; next = 0 }
+
+-- its entry, or why there is none
+abbrev pub directMade : Entry → ℕ → DirectStep
+directMade (Named y) next = record { verdict = Accepted; entry = y; next = next }
+directMade (Unnamed r) next = directRefused r
+
 unfoldable pub directTook : List ℕ → Counts → Tables → Basis → ℕ → fields.Place → fields.Place → ℕ → DirectStep
 directTook s n t basis percent unit delivery next =
-    record {
-      entry = entryOf
-          (directTried n (directInside basis percent)
-          (record { basis = basis; percent = percent; unit = spellingOf (labelOf (charsAt s unit)); delivery = spellingOf (labelOf (charsAt s delivery)) }) t);
-      next = next;
-    }
+    directMade
+    (entryOf
+    (directTried n (directInside basis percent)
+    (record { basis = basis; percent = percent; unit = spellingOf (labelOf (charsAt s unit)); delivery = spellingOf (labelOf (charsAt s delivery)) }) t))
+    next
 
 abbrev pub directStep : List ℕ → Counts → Tables → DirectLine → DirectStep
 directStep s n t (DirectRead basis percent from upto begin end next) =
     directTook s n t basis percent (record { from = from; upto = upto }) (record { from = begin; upto = end }) next
-directStep s n t NoDirect = record { entry = Unnamed (Form (nextLine n)); next = 0 }
+directStep s n t NoDirect = directRefused (Form (nextLine n))
 
--- E, from the place after its letter: its LF is the last of so many bytes.
-abbrev pub endVerdict : ℕ → ℕ → Step → Verdict
-endVerdict size line (At next) = if eqb next size then Accepted else Refused (Form (line + 1))
-endVerdict size line Missing = Refused (Form line)
+-- E, from the place after its letter: its LF is the last of so many bytes, and then 10 and 11 have a verdict on the whole.
+abbrev pub endVerdict : ℕ → ℕ → Verdict → Step → Verdict
+endVerdict size line whole (At next) = if eqb next size then whole else Refused (Form (line + 1))
+endVerdict size line whole Missing = Refused (Form line)
+
+-- A step, made of what its line was read to and of the rules tried on it.
+
+pub source-made : (s : List ℕ) (at letter : ℕ) (n : Counts) (u : Totals) (lo hi : List ℕ) {totals : Totals} {inRange : Bool} {plant : Plant} {from upto next : ℕ} {label : Label} {spelling : Spelling} {verdict : Verdict}
+    → plantFrom s at letter ≡ SourceRead inRange plant from upto next → label ≡ labelOf (charsAt s (record { from = from; upto = upto })) → spelling ≡ spellingOf label
+    → verdict ≡ verdictOf (sourceTried n inRange plant spelling lo hi) → totals ≡ sourceTotalled u plant
+    → record { verdict = verdict; entry = record { plant = plant; label = label }; place = record { from = from; upto = upto }; totals = totals; next = next } ≡ sourceFrom s at letter n u lo hi
+unfolding sourceStep
+source-made s at letter n u lo hi line label spelling verdict totals = rw (line, verdict, totals, spelling, label)
+
+pub delivery-made : (s : List ℕ) (n : Counts) (u : Totals) (lo hi : List ℕ) {totals : Totals} {l : DeliveryLine} {inRange : Bool} {sequence kind block mwh from upto next : ℕ} {label : Label} {spelling : Spelling} {verdict : Verdict}
+    → l ≡ DeliveryRead sequence kind block mwh from upto next → label ≡ labelOf (charsAt s (record { from = from; upto = upto })) → spelling ≡ spellingOf label
+    → inRange ≡ deliveryInside sequence kind block mwh → verdict ≡ verdictOf (deliveryTried n inRange spelling lo hi)
+    → totals ≡ deliveryTotalled u (record { sequence = record { 0 = sequence }; kind = kind; block = block; mwh = mwh; label = label })
+    → record {
+      verdict = verdict;
+      entry = record { sequence = record { 0 = sequence }; kind = kind; block = block; mwh = mwh; label = label };
+      place = record { from = from; upto = upto };
+      totals = totals;
+      next = next;
+    } ≡ deliveryStep s n u lo hi l
+unfolding deliveryTook
+delivery-made s n u lo hi line label spelling inRange verdict totals = rw (line, verdict, totals, inRange, spelling, label)
+
+pub direct-made : (s : List ℕ) (n : Counts) (t : Tables) {l : DirectLine} {inRange : Bool} {basis : Basis} {percent from upto begin end next : ℕ} {unit delivery : Spelling} {entry : Entry}
+    → l ≡ DirectRead basis percent from upto begin end next → unit ≡ spellingOf (labelOf (charsAt s (record { from = from; upto = upto })))
+    → delivery ≡ spellingOf (labelOf (charsAt s (record { from = begin; upto = end }))) → inRange ≡ directInside basis percent
+    → entry ≡ entryOf (directTried n inRange (record { basis = basis; percent = percent; unit = unit; delivery = delivery }) t) → directMade entry next ≡ directStep s n t l
+unfolding directTook
+direct-made s n t line unit delivery inRange entry = rw (line, entry, inRange, unit, delivery)

@@ -6,7 +6,7 @@ use mathlib.Core.Option.{none, some}
 use Prim.Native.Nat.{ℕ, _+_, _<_, _≤_}
 use native.Mathlib.Omega.{arith}
 use lib.Dec.{eqb}
-use lib.ListN.{length, getD, drop}
+use lib.ListN.{length, drop}
 use borrow.Author.Tests.{eqb-true, ne-eqb}
 use Rattle.rules.specs.Words.{if_then_else_}
 use Rattle.rules.specs.Answers.{verdictOf}
@@ -44,16 +44,16 @@ use Rattle.ranges.specs.declared.JudgedUnit.the-variants.{Inside, Outside}
 use Rattle.ranges.specs.RangedIsInside.{unit-inside, purchase-inside, fixed-inside, delivery-inside, direct-inside}
 use Rattle.line_rules.specs.Spellings.{spellingOf}
 use Rattle.line_rules.specs.SpellingTells.{labelled}
-use Rattle.line_rules.specs.Tried.{countsOf, nextLine, sourceTried, deliveryTried, Tables, directTried}
+use Rattle.line_rules.specs.Tried.{entryOf, countsOf, nextLine, sourceTried, deliveryTried, Tables, directTried}
 use Rattle.line_rules.specs.Kept.{Kept}
 use Rattle.line_rules.specs.TriedIsTaken.{source-tried, delivery-tried, direct-tried}
-use Rattle.line_rules.specs.TablesKept.{entry-named, entry-unnamed, source-let, delivery-let, direct-let, sourceAdded, kept-source, deliveryAdded, kept-delivery, directAdded, kept-direct}
-use Rattle.line_rules.specs.declared.Spelling.{Spelling}
+use Rattle.line_rules.specs.TablesKept.{source-let, delivery-let, direct-let, sourceAdded, kept-source, deliveryAdded, kept-delivery, directAdded, kept-direct}
+use Rattle.line_rules.specs.Totalled.{sourceTotalled, deliveryTotalled}
 use Rattle.line_rules.specs.declared.DirectLine.{DirectLine}
-use Rattle.line_rules.specs.declared.Entry.the-variants.{Named, Unnamed}
+use Rattle.line_rules.specs.declared.Totals.{Totals}
 use Rattle.deck.specs.Answers.{Holds}
 use Rattle.deck.specs.Steps as steps
-use Rattle.deck.specs.Steps.{sourceRefused, sourceStep, judgedStep, unitStep, purchaseStep, fixedStep, sourceFrom, deliveryTook, deliveryStep, directTook, directStep}
+use Rattle.deck.specs.Steps.{sourceRefused, sourceStep, judgedStep, unitStep, purchaseStep, fixedStep, sourceFrom, deliveryStep, directRefused, directMade, directStep}
 use Rattle.deck.specs.LabelBytes.{Escaped, line-escaped}
 use Rattle.deck.specs.declared.Place.{Place}
 use Rattle.deck.specs.declared.SourceStep.{SourceStep}
@@ -85,12 +85,12 @@ Refuses s h at r = (o : Outcome Hour) → Going s h at o → o ≡ refused r
 abbrev pub Goes : List ℕ → Hour → ℕ → Hour → ℕ → Type 0
 Goes s h at after next = (o : Outcome Hour) → Going s h at o → Going s after next o
 
--- a line of a class with n entries, k lines after the first, whose label stands at a place
-pub record Takes (s : List ℕ) (h : Hour) (at n k : ℕ) (after : Hour) (tables : Tables) (label : Label) (spelling : Spelling) (place : Place) (next : ℕ) : Type 0 where
+-- a line of a class with n entries, k lines after the first, whose label stands at a place, and the totals with it
+pub record Takes (s : List ℕ) (h : Hour) (at n k : ℕ) (after : Hour) (tables : Tables) (label : Label) (totals sum : Totals) (place : Place) (next : ℕ) : Type 0 where
   pub goes : Goes s h at after next
   pub kept : Kept after tables
   pub room : n < 32
-  pub spelled : spelling ≡ spellingOf label
+  pub totalled : totals ≡ sum
   pub holds : Holds s (escape (chars label)) place
   pub further : at < next
   pub ordered : lineNumber h ≡ k + 1
@@ -98,20 +98,22 @@ pub record Takes (s : List ℕ) (h : Hour) (at n k : ℕ) (after : Hour) (tables
   pub starts : place .from ≡ at + past 34 (drop at s)
   pub ends : next ≡ at + past 10 (drop at s)
 
-pub record Turn (s : List ℕ) (h : Hour) (at n k : ℕ) (verdict : Verdict) (after : Hour) (tables : Tables) (label : Label) (spelling : Spelling) (place : Place) (next : ℕ) : Type 0 where
+pub record Turn (s : List ℕ) (h : Hour) (at n k : ℕ) (verdict : Verdict) (after : Hour) (tables : Tables) (label : Label) (totals sum : Totals) (place : Place) (next : ℕ) : Type 0 where
   pub refuses : (r : Refusal) → verdict ≡ Refused r → Refuses s h at r
-  pub takes : verdict ≡ Accepted → Takes s h at n k after tables label spelling place next
+  pub takes : verdict ≡ Accepted → Takes s h at n k after tables label totals sum place next
 
-abbrev pub SourceTurn : List ℕ → Hour → Tables → ℕ → SourceStep → Type 0
-SourceTurn s h t at r =
-    Turn s h at (h .nsources) (h .nsources + 1) (r .verdict) (withSource h (r .entry)) (sourceAdded t (h .nsources) (r .entry)) (r .entry .label) (r .spelling) (r .place) (r .next)
+abbrev pub SourceTurn : List ℕ → Hour → Tables → Totals → ℕ → SourceStep → Type 0
+SourceTurn s h t u at r =
+    Turn s h at (h .nsources) (h .nsources + 1) (r .verdict) (withSource h (r .entry)) (sourceAdded t (h .nsources) (r .entry)) (r .entry .label)
+    (r .totals) (sourceTotalled u (r .entry .plant)) (r .place) (r .next)
 
-abbrev pub DeliveryTurn : List ℕ → Hour → Tables → ℕ → DeliveryStep → Type 0
-DeliveryTurn s h t at r =
-    Turn s h at (h .ndeliveries) (h .nsources + h .ndeliveries + 1) (r .verdict) (withDelivery h (r .entry)) (deliveryAdded t (h .ndeliveries) (r .entry)) (r .entry .label) (r .spelling) (r .place) (r .next)
+abbrev pub DeliveryTurn : List ℕ → Hour → Tables → Totals → ℕ → DeliveryStep → Type 0
+DeliveryTurn s h t u at r =
+    Turn s h at (h .ndeliveries) (h .nsources + h .ndeliveries + 1) (r .verdict) (withDelivery h (r .entry)) (deliveryAdded t (h .ndeliveries) (r .entry)) (r .entry .label)
+    (r .totals) (deliveryTotalled u (r .entry)) (r .place) (r .next)
 
-module _ (s : List ℕ) (h : Hour) (at n k : ℕ) (after : Hour) (tables : Tables) (label : Label) (spelling : Spelling) (place : Place) (next : ℕ) where
-  refused-turn : (r : Refusal) → Refuses s h at r → Turn s h at n k (Refused r) after tables label spelling place next
+module _ (s : List ℕ) (h : Hour) (at n k : ℕ) (after : Hour) (tables : Tables) (label : Label) (totals sum : Totals) (place : Place) (next : ℕ) where
+  refused-turn : (r : Refusal) → Refuses s h at r → Turn s h at n k (Refused r) after tables label totals sum place next
   refused-turn r e =
       record {
         refuses = λ q v. let is : r ≡ q = cc in λ o g. e o g ∙ ap refused is;
@@ -119,11 +121,11 @@ module _ (s : List ℕ) (h : Hour) (at n k : ℕ) (after : Hour) (tables : Table
       }
 
 -- a line that is read, whose rules are tried on the tables
-module _ (s : List ℕ) (h : Hour) (at n k : ℕ) (after read : Hour) (tables : Tables) (p : fields.Place) (next : ℕ) (l : Line) (tried : Outcome (Unit {0})) where
+module _ (s : List ℕ) (h : Hour) (at n k : ℕ) (after read : Hour) (tables : Tables) (sum : Totals) (p : fields.Place) (next : ℕ) (l : Line) (tried : Outcome (Unit {0})) where
   tried-turn : lineAt s at ≡ got l next → isEnd (l .letter) ≡ false → LabelStands s p → Escaped s p → at < next
       → (lineRanged l ≡ true → p .from ≡ at + past 34 (drop at s)) → taken h l ≡ andThen tried (λ u. accepted read)
       → (taken h l ≡ accepted read → lineNumber h ≡ k + 1) → (tried ≡ accepted tt → (read ≡ after) × Kept after tables × (n < 32))
-      → Turn s h at n k (verdictOf tried) after tables (labelOf (charsAt s p)) (spellingOf (labelOf (charsAt s p))) (record { from = p .from; upto = p .upto }) next
+      → Turn s h at n k (verdictOf tried) after tables (labelOf (charsAt s p)) sum sum (record { from = p .from; upto = p .upto }) next
   tried-turn e i st es far first t order lets =
       record {
         refuses = λ r v o g. goes-refused s h at o g l next e r i (t ∙ ap (λ (x : Outcome (Unit {0})). andThen x (λ u. accepted read)) (verdict-refused tried r v));
@@ -136,7 +138,7 @@ module _ (s : List ℕ) (h : Hour) (at n k : ℕ) (after read : Hour) (tables : 
               goes = λ o g. goes-on s h at o g l next e after (is ∙ ap accepted (q .0));
               kept = q .1;
               room = q .2;
-              spelled = refl;
+              totalled = refl;
               holds = record { order = st .order; within = st .within; bytes = sym es ∙ ap escape (sym (chars-label (charsAt s p))) };
               further = far;
               ordered = order is;
@@ -148,19 +150,19 @@ module _ (s : List ℕ) (h : Hour) (at n k : ℕ) (after read : Hour) (tables : 
 
 -- Source lines.
 
-module _ (s : List ℕ) (h : Hour) (t : Tables) (k : Kept h t) (at : ℕ) where
+module _ (s : List ℕ) (h : Hour) (t : Tables) (u : Totals) (k : Kept h t) (at : ℕ) where
   -- a line whose numbers are those of a plant that was read, and where they are in their ranges those of the one that is tried
   source-tried-turn : (l : Line) (next : ℕ) (inRange : Bool) (plant read : Plant) (p : fields.Place) → lineAt s at ≡ got l next → isEnd (l .letter) ≡ false → LabelStands s p
       → Escaped s p → at < next → (lineRanged l ≡ true → p .from ≡ at + past 34 (drop at s))
       → taken h l ≡ sourceTaken h inRange (record { plant = read; label = labelOf (charsAt s p) }) → (inRange ≡ true → plant ≡ read)
-      → (inRange ≡ true → plantInside plant ≡ true) → SourceTurn s h t at (sourceStep s (countsOf h) (t .slo) (t .shi) inRange plant p next)
+      → (inRange ≡ true → plantInside plant ≡ true) → SourceTurn s h t u at (sourceStep s (countsOf h) u (t .slo) (t .shi) inRange plant p next)
   unfolding steps.sourceStep
   source-tried-turn l next inRange plant read p e i st es far first took same within =
       let x : Source = record { plant = plant; label = labelOf (charsAt s p) } in
       let y : Source = record { plant = read; label = labelOf (charsAt s p) } in
       let lb = labelled (charsAt s p) (st .label) in
       let tried = sourceTried (countsOf h) inRange plant (spellingOf (labelOf (charsAt s p))) (t .slo) (t .shi) in
-      tried-turn s h at (h .nsources) (h .nsources + 1) (withSource h x) (withSource h y) (sourceAdded t (h .nsources) x) p next l tried e i st es far first
+      tried-turn s h at (h .nsources) (h .nsources + 1) (withSource h x) (withSource h y) (sourceAdded t (h .nsources) x) (sourceTotalled u plant) p next l tried e i st es far first
       (took ∙ source-tried h t k inRange y plant lb same)
       (λ is. omega (arith, source-taken h inRange y (withSource h y) (sym took ∙ is) .1 .alone))
       (λ a.
@@ -179,7 +181,7 @@ module _ (s : List ℕ) (h : Hour) (t : Tables) (k : Kept h t) (at : ℕ) where
         → entry (seen (fieldsOf l) s v) .label ≡ labelOf (charsAt s (place v))
         → (inRange : Bool) (plant : Plant) → plantInside (entry (seen (fieldsOf l) s (cutFields (fieldsOf l) v)) .plant) ≡ inRange
         → (inRange ≡ true → plant ≡ entry (seen (fieldsOf l) s (cutFields (fieldsOf l) v)) .plant)
-        → SourceTurn s h t at (sourceStep s (countsOf h) (t .slo) (t .shi) inRange plant (place v) next)
+        → SourceTurn s h t u at (sourceStep s (countsOf h) u (t .slo) (t .shi) inRange plant (place v) next)
     source-turn v next e st es lb inRange plant judged is =
         let ks = fieldsOf l in
         let w = seen ks s v in
@@ -191,17 +193,17 @@ module _ (s : List ℕ) (h : Hour) (t : Tables) (k : Kept h t) (at : ℕ) where
         (λ r. is r ∙ ap (λ (v : Fields fields.Place ks). entry (seen ks s v) .plant) (cut-ranged l s v (same ∙ r)))
         (λ r. ap plantInside (is r) ∙ judged ∙ r)
 
-  no-source : Refuses s h at (Form (lineNumber h)) → SourceTurn s h t at (sourceRefused (Form (nextLine (countsOf h))))
-  no-source e = refused-turn s h at (h .nsources) _ _ _ _ _ _ _ (Form (lineNumber h)) e
+  no-source : Refuses s h at (Form (lineNumber h)) → SourceTurn s h t u at (sourceRefused (Form (nextLine (countsOf h))))
+  no-source e = refused-turn s h at (h .nsources) _ _ _ _ _ _ _ _ (Form (lineNumber h)) e
 
-  unit-turn : letterOf (byte s at) ≡ some U → SourceTurn s h t at (unitStep s (countsOf h) (t .slo) (t .shi) (unitLine (placesAt s (at + 1) U)))
+  unit-turn : letterOf (byte s at) ≡ some U → SourceTurn s h t u at (unitStep s (countsOf h) u (t .slo) (t .shi) (unitLine (placesAt s (at + 1) U)))
   unfolding lines.seen reading.taken
   unit-turn b = go (placesAt s (at + 1) U) refl
     where
       -- judged by its cut numbers
       judge : (v : Fields fields.Place (fieldsOf U)) (next : ℕ) → placesAt s (at + 1) U ≡ got v next → (x : UnitNumbers)
           → unitOf (seen (fieldsOf U) s (cutFields (fieldsOf U) v)) .plant ≡ IsUnit (unitMade x) → (r : Bool) → plantInside (IsUnit (unitMade x)) ≡ r
-          → SourceTurn s h t at (judgedStep s (countsOf h) (t .slo) (t .shi) (if r then Inside (unitMade x) else Outside) (v .1 .1 .1 .1 .1 .1 .1 .1 .1 .1 .0) next)
+          → SourceTurn s h t u at (judgedStep s (countsOf h) u (t .slo) (t .shi) (if r then Inside (unitMade x) else Outside) (v .1 .1 .1 .1 .1 .1 .1 .1 .1 .1 .0) next)
       judge v next e x is true r =
           source-turn U unitOf (λ v. v .1 .1 .1 .1 .1 .1 .1 .1 .1 .1 .0) (λ v. refl) b refl unit-inside (λ w. refl) v next e
           (line-stands s U (at + 1) v next e .labels .0) (line-escaped s U (at + 1) v next e .0) refl true (IsUnit (unitMade x)) (ap plantInside is ∙ r) (λ q. sym is)
@@ -209,25 +211,25 @@ module _ (s : List ℕ) (h : Hour) (t : Tables) (k : Kept h t) (at : ℕ) where
           source-turn U unitOf (λ v. v .1 .1 .1 .1 .1 .1 .1 .1 .1 .1 .0) (λ v. refl) b refl unit-inside (λ w. refl) v next e
           (line-stands s U (at + 1) v next e .labels .0) (line-escaped s U (at + 1) v next e .0) refl false (IsFixed 0) (ap plantInside is ∙ r) (λ q. false-not-true q)
 
-      go : (x : Field (Fields fields.Place (fieldsOf U))) → placesAt s (at + 1) U ≡ x → SourceTurn s h t at (unitStep s (countsOf h) (t .slo) (t .shi) (unitLine x))
+      go : (x : Field (Fields fields.Place (fieldsOf U))) → placesAt s (at + 1) U ≡ x → SourceTurn s h t u at (unitStep s (countsOf h) u (t .slo) (t .shi) (unitLine x))
       go (got v next) e = judge v next e _ refl _ refl
       go malformed e = no-source (λ o g. goes-malformed s h at o g (line-malformed s at U b e))
 
-  purchase-turn : letterOf (byte s at) ≡ some P → SourceTurn s h t at (purchaseStep s (countsOf h) (t .slo) (t .shi) (purchaseLine (placesAt s (at + 1) P)))
+  purchase-turn : letterOf (byte s at) ≡ some P → SourceTurn s h t u at (purchaseStep s (countsOf h) u (t .slo) (t .shi) (purchaseLine (placesAt s (at + 1) P)))
   unfolding lines.seen reading.taken
   purchase-turn b = go (placesAt s (at + 1) P) refl
     where
-      go : (x : Field (Fields fields.Place (fieldsOf P))) → placesAt s (at + 1) P ≡ x → SourceTurn s h t at (purchaseStep s (countsOf h) (t .slo) (t .shi) (purchaseLine x))
+      go : (x : Field (Fields fields.Place (fieldsOf P))) → placesAt s (at + 1) P ≡ x → SourceTurn s h t u at (purchaseStep s (countsOf h) u (t .slo) (t .shi) (purchaseLine x))
       go (got v next) e =
           source-turn P purchaseOf (λ v. v .1 .1 .0) (λ v. refl) b refl purchase-inside (λ w. refl) v next e
           (line-stands s P (at + 1) v next e .labels .0) (line-escaped s P (at + 1) v next e .0) refl _ _ refl (λ r. refl)
       go malformed e = no-source (λ o g. goes-malformed s h at o g (line-malformed s at P b e))
 
-  fixed-turn : letterOf (byte s at) ≡ some F → SourceTurn s h t at (fixedStep s (countsOf h) (t .slo) (t .shi) (fixedLine (placesAt s (at + 1) F)))
+  fixed-turn : letterOf (byte s at) ≡ some F → SourceTurn s h t u at (fixedStep s (countsOf h) u (t .slo) (t .shi) (fixedLine (placesAt s (at + 1) F)))
   unfolding lines.seen reading.taken
   fixed-turn b = go (placesAt s (at + 1) F) refl
     where
-      go : (x : Field (Fields fields.Place (fieldsOf F))) → placesAt s (at + 1) F ≡ x → SourceTurn s h t at (fixedStep s (countsOf h) (t .slo) (t .shi) (fixedLine x))
+      go : (x : Field (Fields fields.Place (fieldsOf F))) → placesAt s (at + 1) F ≡ x → SourceTurn s h t u at (fixedStep s (countsOf h) u (t .slo) (t .shi) (fixedLine x))
       go (got v next) e =
           source-turn F fixedOf (λ v. v .1 .0) (λ v. refl) b refl fixed-inside (λ w. refl) v next e
           (line-stands s F (at + 1) v next e .labels .0) (line-escaped s F (at + 1) v next e .0) refl _ _ refl (λ r. refl)
@@ -253,15 +255,15 @@ module _ (s : List ℕ) (h : Hour) (t : Tables) (k : Kept h t) (at : ℕ) where
 
   -- any line but T, D and E
   pub source-at-turn : (b : ℕ) → byte s at ≡ b → (b ≡ 68 → ⊥) → (b ≡ 84 → ⊥) → (b ≡ 69 → ⊥)
-      → SourceTurn s h t at (sourceFrom s (at + 1) b (countsOf h) (t .slo) (t .shi))
+      → SourceTurn s h t u at (sourceFrom s (at + 1) b (countsOf h) u (t .slo) (t .shi))
   unfolding lines.letterOf
   source-at-turn b be d n e = go (eqb b 85) refl (eqb b 80) refl (eqb b 70) refl
     where
       letter : (c : ℕ) → eqb b c ≡ true → letterOf (byte s at) ≡ letterOf c
       letter c q = ap letterOf (be ∙ eqb-true b c q)
 
-      go : (u : Bool) → eqb b 85 ≡ u → (p : Bool) → eqb b 80 ≡ p → (f : Bool) → eqb b 70 ≡ f
-          → SourceTurn s h t at (sourceFrom s (at + 1) b (countsOf h) (t .slo) (t .shi))
+      go : (c : Bool) → eqb b 85 ≡ c → (p : Bool) → eqb b 80 ≡ p → (f : Bool) → eqb b 70 ≡ f
+          → SourceTurn s h t u at (sourceFrom s (at + 1) b (countsOf h) u (t .slo) (t .shi))
       go true ue p pe f fe = rw ue (unit-turn (letter 85 ue))
       go false ue true pe f fe = rw (ue, pe) (purchase-turn (letter 80 pe))
       go false ue false pe true fe = rw (ue, pe, fe) (fixed-turn (letter 70 fe))
@@ -269,14 +271,14 @@ module _ (s : List ℕ) (h : Hour) (t : Tables) (k : Kept h t) (at : ℕ) where
 
   -- T lines.
 
-  pub delivery-at-turn : byte s at ≡ 84 → DeliveryTurn s h t at (deliveryStep s (countsOf h) (t .tlo) (t .thi) (deliveryLine (placesAt s (at + 1) T)))
+  pub delivery-at-turn : byte s at ≡ 84 → DeliveryTurn s h t u at (deliveryStep s (countsOf h) u (t .tlo) (t .thi) (deliveryLine (placesAt s (at + 1) T)))
   unfolding lines.letterOf lines.seen reading.taken steps.deliveryTook
   delivery-at-turn be = go (placesAt s (at + 1) T) refl
     where
       b : letterOf (byte s at) ≡ some T
       b = ap letterOf be
 
-      go : (x : Field (Fields fields.Place (fieldsOf T))) → placesAt s (at + 1) T ≡ x → DeliveryTurn s h t at (deliveryStep s (countsOf h) (t .tlo) (t .thi) (deliveryLine x))
+      go : (x : Field (Fields fields.Place (fieldsOf T))) → placesAt s (at + 1) T ≡ x → DeliveryTurn s h t u at (deliveryStep s (countsOf h) u (t .tlo) (t .thi) (deliveryLine x))
       go (got v next) e =
           let ks = fieldsOf T in
           let w = seen ks s v in
@@ -288,7 +290,7 @@ module _ (s : List ℕ) (h : Hour) (t : Tables) (k : Kept h t) (at : ℕ) where
           let in-range = deliveryInside (c .0) (c .1 .0) (c .1 .1 .0) (c .1 .1 .1 .0) in
           let same : ranged ks w ≡ in-range = sym (ranged-cut T s v) ∙ delivery-inside c in
           let tried = deliveryTried (countsOf h) in-range (spellingOf (labelOf (charsAt s p))) (t .tlo) (t .thi) in
-          tried-turn s h at (h .ndeliveries) (h .nsources + h .ndeliveries + 1) (withDelivery h (deliveryOf c)) (withDelivery h (deliveryOf w)) (deliveryAdded t (h .ndeliveries) (deliveryOf c)) p next
+          tried-turn s h at (h .ndeliveries) (h .nsources + h .ndeliveries + 1) (withDelivery h (deliveryOf c)) (withDelivery h (deliveryOf w)) (deliveryAdded t (h .ndeliveries) (deliveryOf c)) (deliveryTotalled u (deliveryOf c)) p next
           (line T w) tried (line-got s at T b v next e) refl st (line-escaped s T (at + 1) v next e .0) (omega (arith, ls .after))
           (λ r. label-starts s T at v next p b r e refl)
           (ap (λ (r : Bool). reading.deliveryTaken h r (deliveryOf w)) same ∙ delivery-tried h t k in-range (deliveryOf w) lb)
@@ -299,7 +301,7 @@ module _ (s : List ℕ) (h : Hour) (t : Tables) (k : Kept h t) (at : ℕ) where
             kept-delivery h t k in-range (deliveryOf c) lb a,
             r .room,
           ))
-      go malformed e = refused-turn s h at (h .ndeliveries) _ _ _ _ _ _ _ (Form (lineNumber h)) (λ o g. goes-malformed s h at o g (line-malformed s at T b e))
+      go malformed e = refused-turn s h at (h .ndeliveries) _ _ _ _ _ _ _ _ (Form (lineNumber h)) (λ o g. goes-malformed s h at o g (line-malformed s at T b e))
 
 -- D lines.
 
@@ -307,14 +309,12 @@ pub record DirectTakes (s : List ℕ) (h : Hour) (t : Tables) (at : ℕ) (y : Di
   pub goes : Goes s h at (withDirect h y) next
   pub kept : Kept (withDirect h y) (directAdded t y)
   pub room : h .ndirects < 32
-  pub source : y .source < 32
-  pub total : getD (t .percents) (y .source) 0 + y .percent ≤ 100
   pub further : at < next
   pub ends : next ≡ at + past 10 (drop at s)
 
 pub record DirectTurn (s : List ℕ) (h : Hour) (t : Tables) (at : ℕ) (r : DirectStep) : Type 0 where
-  pub refuses : (q : Refusal) → r .entry ≡ Unnamed q → Refuses s h at q
-  pub takes : (y : Direct) → r .entry ≡ Named y → DirectTakes s h t at y (r .next)
+  pub refuses : (q : Refusal) → r .verdict ≡ Refused q → Refuses s h at q
+  pub takes : r .verdict ≡ Accepted → DirectTakes s h t at (r .entry) (r .next)
 
 pub direct-at-turn : (s : List ℕ) (h : Hour) (t : Tables) (k : Kept h t) (at : ℕ) → byte s at ≡ 68
     → DirectTurn s h t at (directStep s (countsOf h) t (directLine (placesAt s (at + 1) D)))
@@ -323,6 +323,13 @@ direct-at-turn s h t k at be = go (placesAt s (at + 1) D) refl
   where
     b : letterOf (byte s at) ≡ some D
     b = ap letterOf be
+
+    refuse : (r : Refusal) → Refuses s h at r → DirectTurn s h t at (directRefused r)
+    refuse r e =
+        record {
+          refuses = λ q z. let is : r ≡ q = cc in λ o g. e o g ∙ ap refused is;
+          takes = λ z. let z : _≡_ {A = ℕ} 0 1 = cc in absurd (omega arith);
+        }
 
     go : (x : Field (Fields fields.Place (fieldsOf D))) → placesAt s (at + 1) D ≡ x → DirectTurn s h t at (directStep s (countsOf h) t (directLine x))
     go (got v next) e =
@@ -335,34 +342,32 @@ direct-at-turn s h t k at be = go (placesAt s (at + 1) D) refl
         let in-range = directInside (c .0) (c .1 .0) in
         let same : ranged ks w ≡ in-range = sym (ranged-cut D s v) ∙ direct-inside c in
         let x : DirectLine = record { basis = c .0; percent = c .1 .0; unit = spellingOf unit; delivery = spellingOf delivery } in
-        let tried = directTried (countsOf h) in-range x t in
         let cut : in-range ≡ true → cutFields ks v ≡ v = λ r. cut-ranged D s v (same ∙ r) in
-        let took : taken h (line D w) ≡ andThen tried (λ y. accepted (withDirect h y))
+        let got-line = line-got s at D b v next e in
+        let took : taken h (line D w) ≡ andThen (directTried (countsOf h) in-range x t) (λ y. accepted (withDirect h y))
         = ap (λ (r : Bool). reading.directTaken h r (w .0) (w .1 .0) unit delivery) same
         ∙ direct-tried h t k in-range (w .0) (w .1 .0) unit delivery x (labelled (charsAt s (v .1 .1 .0)) (ls .labels .0 .label))
         (labelled (charsAt s (v .1 .1 .1 .0)) (ls .labels .1 .0 .label)) refl refl
         (λ r. (ap (λ (v : Fields fields.Place ks). v .0) (cut r), ap (λ (v : Fields fields.Place ks). v .1 .0) (cut r))) in
-        record {
-          refuses = λ q z o g.
-              goes-refused s h at o g (line D w) next (line-got s at D b v next e) q refl
-              (took ∙ ap (λ (x : Outcome Direct). andThen x (λ y. accepted (withDirect h y))) (entry-unnamed tried q z));
-          takes = λ y z.
-              let a = entry-named tried y z in
-              let r = direct-let (countsOf h) in-range x t y a in
-              let got-line = line-got s at D b v next e in
-              let is : taken h (line D w) ≡ accepted (withDirect h y) = took ∙ ap (λ (x : Outcome Direct). andThen x (λ y. accepted (withDirect h y))) a in
-              record {
-                goes = λ o g. goes-on s h at o g (line D w) next got-line (withDirect h y) is;
-                kept = kept-direct h t k in-range x y a;
-                room = r .room;
-                source = omega (arith, r .source, k .few .sources);
-                total = r .total;
-                further = omega (arith, ls .after);
-                ends = next-starts (line D w) s at next got-line (taken-passed h (line D w) (withDirect h y) is .within);
-              };
-        }
-    go malformed e =
-        record {
-          refuses = λ q z. let is : Form (lineNumber h) ≡ q = cc in λ o g. goes-malformed s h at o g (line-malformed s at D b e) ∙ ap refused is;
-          takes = λ y z. let z : _≡_ {A = ℕ} 0 1 = cc in absurd (omega arith);
-        }
+        tried in-range x (line D w) next got-line refl (omega (arith, ls .after)) took (directTried (countsOf h) in-range x t) refl
+      where
+        tried : (in-range : Bool) (x : DirectLine) (l : Line) (next : ℕ) → lineAt s at ≡ got l next → isEnd (l .letter) ≡ false → at < next
+            → taken h l ≡ andThen (directTried (countsOf h) in-range x t) (λ y. accepted (withDirect h y)) → (o : Outcome Direct) → directTried (countsOf h) in-range x t ≡ o
+            → DirectTurn s h t at (directMade (entryOf o) next)
+        tried in-range x l next e i far took (refused q) a =
+            refuse q (λ o g. goes-refused s h at o g l next e q i (took ∙ ap (λ (x : Outcome Direct). andThen x (λ y. accepted (withDirect h y))) a))
+        tried in-range x l next e i far took (accepted y) a =
+            let r = direct-let (countsOf h) in-range x t y a in
+            let is : taken h l ≡ accepted (withDirect h y) = took ∙ ap (λ (x : Outcome Direct). andThen x (λ y. accepted (withDirect h y))) a in
+            record {
+              refuses = λ q z. let z : _≡_ {A = ℕ} 0 1 = cc in absurd (omega arith);
+              takes = λ z.
+                  record {
+                    goes = λ o g. goes-on s h at o g l next e (withDirect h y) is;
+                    kept = kept-direct h t k in-range x y a;
+                    room = r .room;
+                    further = far;
+                    ends = next-starts l s at next e (taken-passed h l (withDirect h y) is .within);
+                  };
+            }
+    go malformed e = refuse (Form (lineNumber h)) (λ o g. goes-malformed s h at o g (line-malformed s at D b e))

@@ -4,11 +4,11 @@
 // line and those after it.
 ghost use mathlib.Core.Path.{_≡_};
 ghost use Prim.Native.Nat.{_+_, _<_, _≤_};
-ghost use lib.ListN.{length};
+ghost use lib.ListN.{length, getD};
 ghost use denote.Ref.{ptr};
 ghost use Rattle.rules.specs.Answers.{verdictOf};
 ghost use Rattle.rules.specs.Lines.{T, D, U, P, F, placesAt};
-ghost use Rattle.rules.specs.Record.{started, blankSource, blankDelivery, labelOf};
+ghost use Rattle.rules.specs.Record.{started, blankSource, blankDelivery, blankDirect, labelOf};
 ghost use Rattle.rules.specs.Fields.{byteAt, charsAt};
 ghost use Rattle.rules.specs.Reading.{reading, linesFrom};
 ghost use Rattle.rules.specs.Places.{lineStart};
@@ -16,10 +16,11 @@ ghost use Rattle.read_fields.specs.Answers.{stepOf};
 ghost use Rattle.read_lines.specs.Answers.{unitLine, purchaseLine, fixedLine, deliveryLine, directLine};
 ghost use Rattle.read_lines.specs.Cut.{LabelStands};
 ghost use Rattle.line_rules.specs.Spellings.{spellingOf};
-ghost use Rattle.line_rules.specs.Tried.{Few};
+ghost use Rattle.line_rules.specs.Tried.{Few, nextLine, unitHigh, basisCode, aboveOne, aboveAll};
+ghost use Rattle.line_rules.specs.Totalled.{noTotals, finishedBy};
 ghost use Rattle.deck.specs.Answers.{readAnswer, bytesOf, refusedScan, Scanned};
 ghost use Rattle.deck.specs.FirstLine.{headRefused, headStep, readerAt, rowsAfter, Follows};
-ghost use Rattle.deck.specs.Steps.{unitSource, purchaseSource, fixedSource, plantFrom, sourceFrom, sourceRefused, deliveryRefused, deliveryStep, directStep, endVerdict};
+ghost use Rattle.deck.specs.Steps.{unitSource, purchaseSource, fixedSource, plantFrom, sourceFrom, sourceRefused, deliveryRefused, deliveryStep, directRefused, directStep, keptIf, endVerdict};
 use line_rules::Counts;
 use line_rules::Entry;
 use line_rules::Spelling;
@@ -48,6 +49,8 @@ pub struct Place {
     pub from: usize,
     pub upto: usize,
 }
+
+const NOWHERE: Place = Place { from: 0, upto: 0 };
 
 // What a deck comes to, and where the labels of its sources and deliveries stand; past the counts, and for a refused deck, a place holds no bytes.
 pub struct ScannedDeck {
@@ -81,25 +84,26 @@ enum SourceLine {
     Malformed,
 }
 
-// A line at hand: the verdict on it, and for one that is taken its entry, the spelling and the place of its label, and the place after the line.
+// A line at hand: the verdict on it, and for one that is taken its entry, the place of its label, the totals with it, and the place after the line.
 struct SourceStep {
     verdict: Verdict,
     entry: Source,
-    spelling: Spelling,
     place: Place,
+    totals: Totals,
     next: usize,
 }
 
 struct DeliveryStep {
     verdict: Verdict,
     entry: Delivery,
-    spelling: Spelling,
     place: Place,
+    totals: Totals,
     next: usize,
 }
 
 struct DirectStep {
-    entry: Entry,
+    verdict: Verdict,
+    entry: Direct,
     next: usize,
 }
 
@@ -132,18 +136,44 @@ fn blank_delivery() -> Delivery
     }
 }
 
+fn blank_direct() -> Direct
+    ensures { λ r. ⌜ r ≡ blankDirect ⌝ }
+{
+    Direct {
+        basis: Basis::Low,
+        percent: 0,
+        source: 0,
+        delivery: 0,
+    }
+}
+
+fn counts(sources: usize, deliveries: usize, directs: usize) -> Counts
+    ensures { λ r. ⌜ r ≡ record { sources = sources; deliveries = deliveries; directs = directs } ⌝ }
+{
+    Counts {
+        sources,
+        deliveries,
+        directs,
+    }
+}
+
+fn no_totals() -> Totals
+    ensures { λ r. ⌜ r ≡ noTotals ⌝ }
+{
+    Totals {
+        generated: 0,
+        delivered: 0,
+        numbered: false,
+    }
+}
+
 // The hour that an H line starts.
 fn start(losses: u32) -> Hour
     ensures { λ r. ⌜ r ≡ started losses ⌝ }
 {
     let source = blank_source();
     let delivery = blank_delivery();
-    let direct = Direct {
-        basis: Basis::Low,
-        percent: 0,
-        source: 0,
-        delivery: 0,
-    };
+    let direct = blank_direct();
     let sources = [source; 32];
     let deliveries = [delivery; 32];
     let directs = [direct; 32];
@@ -161,9 +191,8 @@ fn start(losses: u32) -> Hour
 fn refused(r: Refusal) -> ScannedDeck
     ensures { λ x. ⌜ x ≡ refusedScan r ⌝ }
 {
-    let nowhere = Place { from: 0, upto: 0 };
-    let sources = [nowhere; 32];
-    let deliveries = [nowhere; 32];
+    let sources = [NOWHERE; 32];
+    let deliveries = [NOWHERE; 32];
     let hour = start(0);
     ScannedDeck {
         verdict: Verdict::Refused(r),
@@ -179,11 +208,12 @@ fn source_refused(r: Refusal) -> SourceStep
     ensures { λ x. ⌜ x ≡ sourceRefused r ⌝ }
 {
     let entry = blank_source();
+    let totals = no_totals();
     SourceStep {
         verdict: Verdict::Refused(r),
         entry,
-        spelling: Spelling { lo: 0, hi: 0 },
-        place: Place { from: 0, upto: 0 },
+        place: NOWHERE,
+        totals,
         next: 0,
     }
 }
@@ -239,32 +269,43 @@ fn plant_at(s: &[u8], at: usize, letter: u8) -> SourceLine
     SourceLine::Malformed
 }
 
-// A source line, tried with its label.
+// A source line, tried with its label, and kept in the tables where it is taken.
 fn source_at(
     s: &[u8],
     at: usize,
     letter: u8,
     n: Counts,
-    lo: &[u64; 32],
-    hi: &[u64; 32],
+    totals: Totals,
+    lo: &mut [u64; 32],
+    hi: &mut [u64; 32],
+    high: &mut [u32; 32],
 ) -> SourceStep
-    requires { ⌜ Few n ⌝ }
-    ensures { λ r. ⌜ r ≡ sourceFrom (now (s .entry)) at letter n (now (lo .entry)) (now (hi .entry)) ⌝ }
+    requires { ⌜ Few n × (totals .generated ≤ aboveAll) ⌝ }
+    ensures step { λ r. ⌜ r ≡ sourceFrom (now (s .entry)) at letter n totals (now (lo .entry)) (now (hi .entry)) ⌝ }
+    ensures most { λ r. ⌜ r .totals .generated ≤ totals .generated + aboveOne ⌝ }
+    ensures lo { λ r. ⌜ now (lo .exit) ≡ keptIf (r .verdict) (now (lo .entry)) (n .sources) (spellingOf (r .entry .label) .lo) ⌝ }
+    ensures hi { λ r. ⌜ now (hi .exit) ≡ keptIf (r .verdict) (now (hi .entry)) (n .sources) (spellingOf (r .entry .label) .hi) ⌝ }
+    ensures high { λ r. ⌜ now (high .exit) ≡ keptIf (r .verdict) (now (high .entry)) (n .sources) (unitHigh (r .entry .plant)) ⌝ }
 {
     let SourceLine::Read(ranged, plant, from, upto, next) = plant_at(s, at, letter) else {
-        let line = line_rules::next_line(n);
-        return source_refused(Refusal::Form(line));
+        return source_refused(Refusal::Form(line_rules::next_line(n)));
     };
     let label = read_fields::label_at(&s[from..upto]);
     let spelling = line_rules::spelling_of(label);
     let verdict = line_rules::take_source(n, ranged, plant, spelling, lo, hi);
-    SourceStep {
+    let summed = line_rules::add_source(totals, plant);
+    let step = SourceStep {
         verdict,
         entry: Source { plant, label },
-        spelling,
         place: Place { from, upto },
+        totals: summed,
         next,
+    };
+    if let Verdict::Refused(r) = verdict {
+        return step;
     }
+    line_rules::keep_source(n.sources, spelling, plant, lo, hi, high);
+    step
 }
 
 // A T line, from the place after its letter.
@@ -273,43 +314,60 @@ fn delivery_refused(r: Refusal) -> DeliveryStep
     ensures { λ x. ⌜ x ≡ deliveryRefused r ⌝ }
 {
     let entry = blank_delivery();
+    let totals = no_totals();
     DeliveryStep {
         verdict: Verdict::Refused(r),
         entry,
-        spelling: Spelling { lo: 0, hi: 0 },
-        place: Place { from: 0, upto: 0 },
+        place: NOWHERE,
+        totals,
         next: 0,
     }
 }
 
-fn delivery_at(s: &[u8], at: usize, n: Counts, lo: &[u64; 32], hi: &[u64; 32]) -> DeliveryStep
-    requires { ⌜ Few n ⌝ }
-    ensures { λ r. ⌜ r ≡ deliveryStep (now (s .entry)) n (now (lo .entry)) (now (hi .entry)) (deliveryLine (placesAt (now (s .entry)) at T)) ⌝ }
+fn delivery_at(
+    s: &[u8],
+    at: usize,
+    n: Counts,
+    totals: Totals,
+    lo: &mut [u64; 32],
+    hi: &mut [u64; 32],
+) -> DeliveryStep
+    requires { ⌜ Few n × (totals .delivered ≤ aboveAll) ⌝ }
+    ensures step { λ r. ⌜ r ≡ deliveryStep (now (s .entry)) n totals (now (lo .entry)) (now (hi .entry)) (deliveryLine (placesAt (now (s .entry)) at T)) ⌝ }
+    ensures most { λ r. ⌜ r .totals .delivered ≤ totals .delivered + aboveOne ⌝ }
+    ensures lo { λ r. ⌜ now (lo .exit) ≡ keptIf (r .verdict) (now (lo .entry)) (n .deliveries) (spellingOf (r .entry .label) .lo) ⌝ }
+    ensures hi { λ r. ⌜ now (hi .exit) ≡ keptIf (r .verdict) (now (hi .entry)) (n .deliveries) (spellingOf (r .entry .label) .hi) ⌝ }
 {
     let DeliveryLine::Read(sequence, kind, block, mwh, from, upto, next) = read_lines::delivery(
         s,
         at,
     ) else {
-        let line = line_rules::next_line(n);
-        return delivery_refused(Refusal::Form(line));
+        return delivery_refused(Refusal::Form(line_rules::next_line(n)));
     };
     let label = read_fields::label_at(&s[from..upto]);
     let spelling = line_rules::spelling_of(label);
     let ranged = ranges::delivery_in_range(sequence, kind, block, mwh);
     let verdict = line_rules::take_delivery(n, ranged, spelling, lo, hi);
-    DeliveryStep {
+    let entry = Delivery {
+        sequence: InputSequence(sequence),
+        kind,
+        block,
+        mwh,
+        label,
+    };
+    let summed = line_rules::add_delivery(totals, entry);
+    let step = DeliveryStep {
         verdict,
-        entry: Delivery {
-            sequence: InputSequence(sequence),
-            kind,
-            block,
-            mwh,
-            label,
-        },
-        spelling,
+        entry,
         place: Place { from, upto },
+        totals: summed,
         next,
+    };
+    if let Verdict::Refused(r) = verdict {
+        return step;
     }
+    line_rules::keep_spelling(n.deliveries, spelling, lo, hi);
+    step
 }
 
 // A D line, from the place after its letter.
@@ -322,6 +380,17 @@ fn spelling_at(s: &[u8], from: usize, upto: usize) -> Spelling
     line_rules::spelling_of(label)
 }
 
+fn direct_refused(r: Refusal) -> DirectStep
+    ensures { λ x. ⌜ x ≡ directRefused r ⌝ }
+{
+    let entry = blank_direct();
+    DirectStep {
+        verdict: Verdict::Refused(r),
+        entry,
+        next: 0,
+    }
+}
+
 fn direct_at(
     s: &[u8],
     at: usize,
@@ -331,19 +400,17 @@ fn direct_at(
     tlo: &[u64; 32],
     thi: &[u64; 32],
     high: &[u32; 32],
-    based: &[u64; 32],
-    percents: &[u32; 32],
+    based: &mut [u64; 32],
+    percents: &mut [u32; 32],
 ) -> DirectStep
     requires { ⌜ Few n ⌝ }
-    ensures { λ r. ⌜ r ≡ directStep (now (s .entry)) n (record { slo = now (slo .entry); shi = now (shi .entry); tlo = now (tlo .entry); thi = now (thi .entry); high = now (high .entry); based = now (based .entry); percents = now (percents .entry) }) (directLine (placesAt (now (s .entry)) at D)) ⌝ }
+    ensures step { λ r. ⌜ r ≡ directStep (now (s .entry)) n (record { slo = now (slo .entry); shi = now (shi .entry); tlo = now (tlo .entry); thi = now (thi .entry); high = now (high .entry); based = now (based .entry); percents = now (percents .entry) }) (directLine (placesAt (now (s .entry)) at D)) ⌝ }
+    ensures based { λ r. ⌜ now (based .exit) ≡ keptIf (r .verdict) (now (based .entry)) (r .entry .source) (basisCode (r .entry .basis)) ⌝ }
+    ensures percents { λ r. ⌜ now (percents .exit) ≡ keptIf (r .verdict) (now (percents .entry)) (r .entry .source) (getD (now (percents .entry)) (r .entry .source) 0 + r .entry .percent) ⌝ }
 {
     let DirectLine::Read(basis, percent, from, upto, begin, end, next) = read_lines::direct(s, at)
     else {
-        let line = line_rules::next_line(n);
-        return DirectStep {
-            entry: Entry::Unnamed(Refusal::Form(line)),
-            next: 0,
-        };
+        return direct_refused(Refusal::Form(line_rules::next_line(n)));
     };
     let unit = spelling_at(s, from, upto);
     let delivery = spelling_at(s, begin, end);
@@ -355,21 +422,32 @@ fn direct_at(
         delivery,
     };
     let entry = line_rules::take_direct(n, ranged, x, slo, shi, tlo, thi, high, based, percents);
-    DirectStep { entry, next }
+    match entry {
+        Entry::Unnamed(r) => direct_refused(r),
+        Entry::Named(d) => {
+            line_rules::keep_direct(d, based, percents);
+            DirectStep {
+                verdict: Verdict::Accepted,
+                entry: d,
+                next,
+            }
+        }
+    }
 }
 
-// The E line at a place, after which nothing stands; the line's number for the refusal.
-fn end_at(s: &[u8], at: usize, line: usize) -> Verdict
-    requires { ⌜ line < 100 ⌝ }
-    ensures { λ r. ⌜ r ≡ endVerdict (length (now (s .entry))) line (stepOf (byteAt (now (s .entry)) at 10)) ⌝ }
+// The E line at a place, after which nothing stands; then 10 and 11.
+fn end_at(s: &[u8], at: usize, n: Counts, losses: u32, totals: Totals) -> Verdict
+    requires { ⌜ Few n × (totals .delivered ≤ aboveAll) ⌝ }
+    ensures { λ r. ⌜ r ≡ endVerdict (length (now (s .entry))) (nextLine n) (finishedBy n losses totals) (stepOf (byteAt (now (s .entry)) at 10)) ⌝ }
 {
+    let line = line_rules::next_line(n);
     let Step::At(p) = read_fields::byte(s, at, b'\n') else {
         return Verdict::Refused(Refusal::Form(line));
     };
     if p != s.len() {
         return Verdict::Refused(Refusal::Form(line + 1));
     }
-    Verdict::Accepted
+    line_rules::finish(n, losses, totals)
 }
 
 // The lines after the first: the hour grows entry by entry, with the tables and the totals of its entries beside it.
@@ -378,9 +456,8 @@ fn rows(s: &[u8], losses: u32, from: usize) -> ScannedDeck
     ensures { λ r. ⌜ Scanned (now (s .entry)) (linesFrom (length (now (s .entry))) (now (s .entry)) (started losses) from) r ⌝ }
 {
     let mut h = start(losses);
-    let nowhere = Place { from: 0, upto: 0 };
-    let mut sources = [nowhere; 32];
-    let mut deliveries = [nowhere; 32];
+    let mut sources = [NOWHERE; 32];
+    let mut deliveries = [NOWHERE; 32];
     let mut slo = [0u64; 32];
     let mut shi = [0u64; 32];
     let mut tlo = [0u64; 32];
@@ -388,19 +465,11 @@ fn rows(s: &[u8], losses: u32, from: usize) -> ScannedDeck
     let mut high = [0u32; 32];
     let mut based = [0u64; 32];
     let mut percents = [0u32; 32];
-    let mut totals = Totals {
-        generated: 0,
-        delivered: 0,
-        numbered: false,
-    };
+    let mut totals = no_totals();
     let mut at = from;
     while at < s.len() {
         let letter = s[at];
-        let n = Counts {
-            sources: h.nsources,
-            deliveries: h.ndeliveries,
-            directs: h.ndirects,
-        };
+        let n = counts(h.nsources, h.ndeliveries, h.ndirects);
         if letter == b'D' {
             let x = direct_at(
                 s,
@@ -411,91 +480,68 @@ fn rows(s: &[u8], losses: u32, from: usize) -> ScannedDeck
                 &tlo,
                 &thi,
                 &high,
-                &based,
-                &percents,
+                &mut based,
+                &mut percents,
             );
-            let entry = x.entry;
-            match entry {
-                Entry::Unnamed(r) => {
-                    return refused(r);
-                }
-                Entry::Named(d) => {
-                    line_rules::keep_direct(d, &mut based, &mut percents);
-                    let m = h.ndirects;
-                    h.directs[m] = d;
-                    h.ndirects = m + 1;
-                    at = x.next;
-                }
+            let v = x.verdict;
+            if let Verdict::Refused(r) = v {
+                return refused(r);
             }
+            let m = h.ndirects;
+            let e = x.entry;
+            h.directs[m] = e;
+            h.ndirects = m + 1;
+            at = x.next;
         } else if letter == b'T' {
-            let x = delivery_at(s, at + 1, n, &tlo, &thi);
+            let x = delivery_at(s, at + 1, n, totals, &mut tlo, &mut thi);
             let v = x.verdict;
             if let Verdict::Refused(r) = v {
                 return refused(r);
             }
             let m = h.ndeliveries;
-            let k = x.spelling;
-            line_rules::keep_spelling(m, k, &mut tlo, &mut thi);
             let place = x.place;
             deliveries[m] = place;
             let e = x.entry;
-            totals = line_rules::add_delivery(totals, e);
             h.deliveries[m] = e;
             h.ndeliveries = m + 1;
+            totals = x.totals;
             at = x.next;
         } else if letter == b'E' {
-            let line = line_rules::next_line(n);
-            let v = end_at(s, at + 1, line);
+            let v = end_at(s, at + 1, n, h.losses, totals);
             if let Verdict::Refused(r) = v {
                 return refused(r);
             }
-            let w = line_rules::finish(n, h.losses, totals);
-            if let Verdict::Refused(r) = w {
-                return refused(r);
-            }
             return ScannedDeck {
-                verdict: Verdict::Accepted,
+                verdict: v,
                 hour: h,
                 sources,
                 deliveries,
             };
         } else {
-            let x = source_at(s, at + 1, letter, n, &slo, &shi);
+            let x = source_at(s, at + 1, letter, n, totals, &mut slo, &mut shi, &mut high);
             let v = x.verdict;
             if let Verdict::Refused(r) = v {
                 return refused(r);
             }
             let m = h.nsources;
-            let k = x.spelling;
-            line_rules::keep_spelling(m, k, &mut slo, &mut shi);
-            let e = x.entry;
-            let p = e.plant;
-            high[m] = line_rules::unit_high(p);
-            totals = line_rules::add_source(totals, p);
             let place = x.place;
             sources[m] = place;
+            let e = x.entry;
             h.sources[m] = e;
             h.nsources = m + 1;
+            totals = x.totals;
             at = x.next;
         }
     }
-    let line = line_rules::next_line(Counts {
-        sources: h.nsources,
-        deliveries: h.ndeliveries,
-        directs: h.ndirects,
-    });
-    refused(Refusal::Form(line))
+    let n = counts(h.nsources, h.ndeliveries, h.ndirects);
+    refused(Refusal::Form(line_rules::next_line(n)))
 }
 
 // The same lines for their verdict alone: no entry is kept, and no hour is made.
 fn check_rows(s: &[u8], losses: u32, from: usize) -> Verdict
     ensures { λ r. ⌜ r ≡ verdictOf (linesFrom (length (now (s .entry))) (now (s .entry)) (started losses) from) ⌝ }
 {
-    let mut n = Counts {
-        sources: 0,
-        deliveries: 0,
-        directs: 0,
-    };
+    let mut n = counts(0, 0, 0);
     let mut slo = [0u64; 32];
     let mut shi = [0u64; 32];
     let mut tlo = [0u64; 32];
@@ -503,11 +549,7 @@ fn check_rows(s: &[u8], losses: u32, from: usize) -> Verdict
     let mut high = [0u32; 32];
     let mut based = [0u64; 32];
     let mut percents = [0u32; 32];
-    let mut totals = Totals {
-        generated: 0,
-        delivered: 0,
-        numbered: false,
-    };
+    let mut totals = no_totals();
     let mut at = from;
     while at < s.len() {
         let letter = s[at];
@@ -521,58 +563,38 @@ fn check_rows(s: &[u8], losses: u32, from: usize) -> Verdict
                 &tlo,
                 &thi,
                 &high,
-                &based,
-                &percents,
+                &mut based,
+                &mut percents,
             );
-            let entry = x.entry;
-            match entry {
-                Entry::Unnamed(r) => {
-                    return Verdict::Refused(r);
-                }
-                Entry::Named(d) => {
-                    line_rules::keep_direct(d, &mut based, &mut percents);
-                    n.directs = n.directs + 1;
-                    at = x.next;
-                }
-            }
-        } else if letter == b'T' {
-            let x = delivery_at(s, at + 1, n, &tlo, &thi);
             let v = x.verdict;
             if let Verdict::Refused(r) = v {
-                return Verdict::Refused(r);
+                return v;
             }
-            let k = x.spelling;
-            line_rules::keep_spelling(n.deliveries, k, &mut tlo, &mut thi);
-            let e = x.entry;
-            totals = line_rules::add_delivery(totals, e);
+            n.directs = n.directs + 1;
+            at = x.next;
+        } else if letter == b'T' {
+            let x = delivery_at(s, at + 1, n, totals, &mut tlo, &mut thi);
+            let v = x.verdict;
+            if let Verdict::Refused(r) = v {
+                return v;
+            }
             n.deliveries = n.deliveries + 1;
+            totals = x.totals;
             at = x.next;
         } else if letter == b'E' {
-            let line = line_rules::next_line(n);
-            let v = end_at(s, at + 1, line);
-            if let Verdict::Refused(r) = v {
-                return Verdict::Refused(r);
-            }
-            return line_rules::finish(n, losses, totals);
+            return end_at(s, at + 1, n, losses, totals);
         } else {
-            let x = source_at(s, at + 1, letter, n, &slo, &shi);
+            let x = source_at(s, at + 1, letter, n, totals, &mut slo, &mut shi, &mut high);
             let v = x.verdict;
             if let Verdict::Refused(r) = v {
-                return Verdict::Refused(r);
+                return v;
             }
-            let m = n.sources;
-            let k = x.spelling;
-            line_rules::keep_spelling(m, k, &mut slo, &mut shi);
-            let e = x.entry;
-            let p = e.plant;
-            high[m] = line_rules::unit_high(p);
-            totals = line_rules::add_source(totals, p);
-            n.sources = m + 1;
+            n.sources = n.sources + 1;
+            totals = x.totals;
             at = x.next;
         }
     }
-    let line = line_rules::next_line(n);
-    Verdict::Refused(Refusal::Form(line))
+    Verdict::Refused(Refusal::Form(line_rules::next_line(n)))
 }
 
 // 1, then the first line from its letter on.

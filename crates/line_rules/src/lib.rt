@@ -301,6 +301,24 @@ pub fn keep_spelling(i: usize, k: Spelling, lo: &mut [u64; 32], hi: &mut [u64; 3
     hi[i] = k.hi;
 }
 
+// A source: its spelling, and the high of a unit.
+pub fn keep_source(
+    i: usize,
+    k: Spelling,
+    p: Plant,
+    lo: &mut [u64; 32],
+    hi: &mut [u64; 32],
+    high: &mut [u32; 32],
+)
+    requires { ⌜ i < 32 ⌝ }
+    ensures lo { λ _. ⌜ now (lo .exit) ≡ set (now (lo .entry)) i (k .lo) ⌝ }
+    ensures hi { λ _. ⌜ now (hi .exit) ≡ set (now (hi .entry)) i (k .hi) ⌝ }
+    ensures high { λ _. ⌜ now (high .exit) ≡ set (now (high .entry)) i (unitHigh p) ⌝ }
+{
+    keep_spelling(i, k, lo, hi);
+    high[i] = unit_high(p);
+}
+
 pub fn keep_direct(x: Direct, based: &mut [u64; 32], percents: &mut [u32; 32])
     requires { ⌜ (x .source < 32) × (getD (now percents) (x .source) 0 + x .percent ≤ 100) ⌝ }
     ensures based { λ _. ⌜ now (based .exit) ≡ set (now (based .entry)) (x .source) (basisCode (x .basis)) ⌝ }

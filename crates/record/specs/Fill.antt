@@ -3,7 +3,6 @@ use mathlib.Core.Path.{_≡_, refl, sym, _∙_}
 use mathlib.Core.List.{List}
 use Prim.Native.Nat.{ℕ, zero, suc, _+_, _<_, _≤_}
 use native.Mathlib.Decide.{decLt}
-use native.Mathlib.Numerals.{add-one}
 use native.Mathlib.Omega.{arith}
 use lib.ListN.{length, getD, set, replicate, length-set, length-replicate, getD-replicate}
 use lib.Seq.{getD-set-same, getD-set-other, ext-getD}
@@ -11,21 +10,6 @@ use Rattle.record.specs.Own as own
 use Rattle.record.specs.Own.{fillTo}
 
 module _ {A : Type 0} (f : ℕ → A) where
-  pub fillTo-zero : (xs : List A) → fillTo f xs 0 ≡ xs
-  unfolding own.fillTo
-  fillTo-zero xs = refl
-
-  pub fillTo-suc : (xs : List A) (n : ℕ) → fillTo f xs (suc n) ≡ set (fillTo f xs n) n (f n)
-  unfolding own.fillTo
-  fillTo-suc xs n = refl
-
-  pub fillTo-more : (xs ys : List A) (n : ℕ) (y : A) → ys ≡ fillTo f xs n → y ≡ f n → set ys n y ≡ fillTo f xs (n + 1)
-  unfolding own.fillTo
-  fillTo-more xs ys n y e q = rw (add-one n, e, q)
-
-  pub fillTo-end : (xs ys : List A) (n i : ℕ) → i ≤ n → n ≤ i → ys ≡ fillTo f xs i → ys ≡ fillTo f xs n
-  fillTo-end xs ys n i a b e = let q : i ≡ n = omega arith in rw q at e
-
   pub fillTo-length : (xs : List A) (n : ℕ) → length (fillTo f xs n) ≡ length xs
   unfolding own.fillTo
   fillTo-length xs zero = refl

@@ -2,6 +2,7 @@ pub mod Shape
 pub mod Loops
 pub mod ShapeTells
 pub mod Own
+pub mod OwnTells
 pub mod Fill
 pub mod Steps
 pub mod Turns

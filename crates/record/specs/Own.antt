@@ -1,11 +1,11 @@
--- Document 01, "hour record that no deck gives" (15), as tests of the record's own entries in turn: each line let through as a deck's would be, blanks after the counts, 10 and 11.
+-- Document 01, "hour record that no deck gives" (15), as tests of the record's own places in turn: below the counts each entry let through as a deck's line would be, blanks from there on, 10 and 11.
 use mathlib.Core.Bool.{Bool, true, false, not, _&&_}
 use mathlib.Core.List.{List}
 use mathlib.Core.Path.{_≡_}
-use Prim.Native.Nat.{ℕ, zero, suc, _+_, _<_, _≤_}
+use Prim.Native.Nat.{ℕ, zero, suc, _+_}
 use lib.Dec.{leb, ltb, eqb}
 use lib.ListN.{length, getD, set, replicate}
-use Rattle.rules.specs.Words.{allTo}
+use Rattle.rules.specs.Words.{if_then_else_, allTo}
 use Rattle.rules.specs.Answers.{verdictOf}
 use Rattle.rules.specs.Group.{noDirect}
 use Rattle.rules.specs.Sequences.{noDelivery}
@@ -30,6 +30,10 @@ accepts Accepted = true
 accepts (Refused r) = false
 
 -- The tables of the first entries.
+
+-- a list with v at i, if so
+abbrev pub setIf : Bool → List ℕ → ℕ → ℕ → List ℕ
+setIf so xs i v = if so then set xs i v else xs
 
 -- f 0, .., f (n - 1) set in a list
 unfoldable pub fillTo : {A : Type 0} → (ℕ → A) → List A → ℕ → List A
@@ -90,21 +94,21 @@ counts i j k = record { sources = i; deliveries = j; directs = k }
 abbrev pub sourceRuled : ℕ → Plant → Spelling → List ℕ → List ℕ → Bool
 sourceRuled i p spelling lo hi = accepts (verdictOf (sourceTried (counts i 0 0) (plantInside p) p spelling lo hi))
 
-unfoldable pub sourceOwn : ℕ → Source → Spelling → List ℕ → List ℕ → Bool
-sourceOwn i x spelling lo hi = ownLabel (x .label) && sourceRuled i (x .plant) spelling lo hi
+unfoldable pub sourceOwn : ℕ → Source → List ℕ → List ℕ → Bool
+sourceOwn i x lo hi = ownLabel (x .label) && sourceRuled i (x .plant) (spellingOf (x .label)) lo hi
 
 abbrev pub sourceOwnAt : List Source → ℕ → Bool
-sourceOwnAt sources i = sourceOwn i (getD sources i noSource) (sourceSpelling sources i) (slosTo sources i) (shisTo sources i)
+sourceOwnAt sources i = sourceOwn i (getD sources i noSource) (slosTo sources i) (shisTo sources i)
 
 -- a delivery after n sources and j others
 abbrev pub deliveryRuled : ℕ → ℕ → Delivery → Spelling → List ℕ → List ℕ → Bool
 deliveryRuled n j x spelling lo hi = accepts (verdictOf (deliveryTried (counts n j 0) (deliveryInside (x .sequence .0) (x .kind) (x .block) (x .mwh)) spelling lo hi))
 
-unfoldable pub deliveryOwn : ℕ → ℕ → Delivery → Spelling → List ℕ → List ℕ → Bool
-deliveryOwn n j x spelling lo hi = ownLabel (x .label) && deliveryRuled n j x spelling lo hi
+unfoldable pub deliveryOwn : ℕ → ℕ → Delivery → List ℕ → List ℕ → Bool
+deliveryOwn n j x lo hi = ownLabel (x .label) && deliveryRuled n j x (spellingOf (x .label)) lo hi
 
 abbrev pub deliveryOwnAt : ℕ → List Delivery → ℕ → Bool
-deliveryOwnAt n deliveries j = deliveryOwn n j (getD deliveries j noDelivery) (deliverySpelling deliveries j) (tlosTo deliveries j) (thisTo deliveries j)
+deliveryOwnAt n deliveries j = deliveryOwn n j (getD deliveries j noDelivery) (tlosTo deliveries j) (thisTo deliveries j)
 
 -- 3, 4 and 7 to 9 of a D entry: what it names, it names by its place
 abbrev pub directRuled : Counts → Direct → List ℕ → List ℕ → List ℕ → Bool
@@ -115,30 +119,46 @@ directRuled n x high based percents =
 unfoldable pub directOwn : Counts → Direct → List ℕ → List ℕ → List ℕ → Bool
 directOwn n x high based percents = ltb (x .source) (n .sources) && (ltb (x .delivery) (n .deliveries) && directRuled n x high based percents)
 
--- a D entry after k others, of n sources, whose highs are at hand, and m deliveries
-abbrev pub directOwnIn : ℕ → ℕ → List Direct → List ℕ → ℕ → Bool
-directOwnIn n m directs high k = directOwn (counts n m k) (getD directs k noDirect) high (basedTo directs k) (percentsTo directs k)
-
 abbrev pub directOwnAt : Hour → ℕ → Bool
-directOwnAt h k = directOwnIn (h .nsources) (h .ndeliveries) (h .directs) (highsTo (h .sources) (h .nsources)) k
+directOwnAt h k = directOwn (counts (h .nsources) (h .ndeliveries) k) (getD (h .directs) k noDirect) (highsTo (h .sources) (h .nsources)) (basedTo (h .directs) k) (percentsTo (h .directs) k)
+
+-- Places: below the count its entry is let through, from there on it is blank.
+
+unfoldable pub sourceStands : Counts → ℕ → Source → List ℕ → List ℕ → Bool
+sourceStands n i x lo hi = if ltb i (n .sources) then sourceOwn i x lo hi else sourceBlank x
+
+unfoldable pub deliveryStands : Counts → ℕ → Delivery → List ℕ → List ℕ → Bool
+deliveryStands n j x lo hi = if ltb j (n .deliveries) then deliveryOwn (n .sources) j x lo hi else deliveryBlank x
+
+unfoldable pub directStands : Counts → ℕ → Direct → List ℕ → List ℕ → List ℕ → Bool
+directStands n k x high based percents = if ltb k (n .directs) then directOwn (counts (n .sources) (n .deliveries) k) x high based percents else directBlank x
+
+abbrev pub stands : (ℕ → Bool) → (ℕ → Bool) → ℕ → ℕ → Bool
+stands own blank n i = if ltb i n then own i else blank i
+
+abbrev pub sourceStandsAt : Hour → ℕ → Bool
+sourceStandsAt h = stands (sourceOwnAt (h .sources)) (λ i. sourceBlank (getD (h .sources) i noSource)) (h .nsources)
+
+abbrev pub deliveryStandsAt : Hour → ℕ → Bool
+deliveryStandsAt h = stands (deliveryOwnAt (h .nsources) (h .deliveries)) (λ j. deliveryBlank (getD (h .deliveries) j noDelivery)) (h .ndeliveries)
+
+abbrev pub directStandsAt : Hour → ℕ → Bool
+directStandsAt h = stands (directOwnAt h) (λ k. directBlank (getD (h .directs) k noDirect)) (h .ndirects)
 
 -- All together.
 
 unfoldable pub fewEntries : Counts → Bool
 fewEntries n = leb (n .sources) 32 && (leb (n .deliveries) 32 && leb (n .directs) 32)
 
--- 32 places, and blanks in those past the count
-pub record Rest {A : Type 0} (blank : A → Bool) (default : A) (xs : List A) (n : ℕ) : Type 0 where
+-- 32 places that all stand
+pub record Places {A : Type 0} (xs : List A) (stand : ℕ → Bool) : Type 0 where
   pub size : length xs ≡ 32
-  pub blanks : (i : ℕ) → n ≤ i → i < 32 → blank (getD xs i default) ≡ true
+  pub all : allTo stand 32 ≡ true
 
 pub record Passes (h : Hour) : Type 0 where
   pub few : fewEntries (countsOf h) ≡ true
   pub losses : lossesInside (h .losses) ≡ true
-  pub sources : allTo (sourceOwnAt (h .sources)) (h .nsources) ≡ true
-  pub deliveries : allTo (deliveryOwnAt (h .nsources) (h .deliveries)) (h .ndeliveries) ≡ true
-  pub directs : allTo (directOwnAt h) (h .ndirects) ≡ true
-  pub sources-rest : Rest sourceBlank noSource (h .sources) (h .nsources)
-  pub deliveries-rest : Rest deliveryBlank noDelivery (h .deliveries) (h .ndeliveries)
-  pub directs-rest : Rest directBlank noDirect (h .directs) (h .ndirects)
+  pub sources : Places (h .sources) (sourceStandsAt h)
+  pub deliveries : Places (h .deliveries) (deliveryStandsAt h)
+  pub directs : Places (h .directs) (directStandsAt h)
   pub done : accepts (verdictOf (finished h)) ≡ true

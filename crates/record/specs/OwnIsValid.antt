@@ -1,4 +1,4 @@
--- A record passes the test entry by entry exactly when some deck gives it.
+-- A record passes the test place by place exactly when some deck gives it.
 use mathlib.Core.Path.{_≡_, refl, ap, sym, _∙_}
 use mathlib.Core.Bool.{Bool, true, false}
 use mathlib.Core.List.{List, [], _∷_, _++_, append-nil}
@@ -23,16 +23,17 @@ use Rattle.ranges.specs.RangedIsInside.{losses-inside}
 use Rattle.line_rules.specs.Tried.{countsOf, Few}
 use Rattle.record.specs.Shape.{sourceBlank, deliveryBlank, directBlank}
 use Rattle.record.specs.ShapeTells.{blank-source, blank-delivery, blank-direct, blanks-blank}
-use Rattle.record.specs.Own.{fillTo, tablesTo, sourceOwnAt, deliveryOwnAt, directOwnAt, Rest, Passes}
+use Rattle.record.specs.Own.{fillTo, tablesTo, sourceOwnAt, deliveryOwnAt, directOwnAt, stands, Places, Passes}
 use Rattle.record.specs.Fill.{fillTo-own}
-use Rattle.record.specs.Steps.{few-from, few-to}
+use Rattle.record.specs.OwnTells.{few-from, few-to}
+use Rattle.record.specs.Steps.{entries-own, rest-blank, all-stand}
 use Rattle.record.specs.Turns.{feed-append, labels-append, all-fed, fed-all}
 use Rattle.record.specs.SoFar.{soFar, accepts-told, started-is, started-kept, source-step, source-back, delivery-step, delivery-back, direct-step, direct-back}
 
--- a list of 32 whose rest is blank is its first n elements and blanks
-filled : {A : Type 0} (xs : List A) (blank d : A) (test : A → Bool) → ((x : A) → test x ≡ true → x ≡ blank) → (n : ℕ) → n ≤ 32
-    → Rest test d xs n → fillTo (λ i. getD xs i d) (replicate 32 blank) n ≡ xs
-filled xs blank d test tells n few r = fillTo-own xs blank d n (r .size) few (λ i l m. tells (getD xs i d) (r .blanks i l m))
+-- a list of 32 whose places stand is its first n elements and blanks
+filled : {A : Type 0} (xs : List A) (blank d : A) (test : A → Bool) → ((x : A) → test x ≡ true → x ≡ blank) → (own : ℕ → Bool) (n : ℕ) → n ≤ 32
+    → Places xs (stands own (λ i. test (getD xs i d)) n) → fillTo (λ i. getD xs i d) (replicate 32 blank) n ≡ xs
+filled xs blank d test tells own n few p = fillTo-own xs blank d n (p .size) few (λ i l m. tells (getD xs i d) (rest-blank own _ n (p .all) i l m))
 
 module _ (h : Hour) where
   sourceLines : ℕ → List Line
@@ -54,12 +55,12 @@ module _ (h : Hour) where
     fed : feed (soFar h 0 0 0) (body h) ≡ accepted (soFar h (h .nsources) (h .ndeliveries) (h .ndirects))
     labels : allLabelled (body h) ≡ true
 
-  given-lines : Passes h → Given
+  given-lines : Few (countsOf h) → Passes h → Given
   unfolding sourceLines deliveryLines directLines
-  given-lines p =
-      let s = all-fed _ (λ i. soFar h i 0 0) (λ i. tablesTo h i 0 0) (sourceOwnAt (h .sources)) (source-step h) (started-kept h) (h .nsources) (p .sources) in
-      let t = all-fed _ (λ j. soFar h (h .nsources) j 0) (λ j. tablesTo h (h .nsources) j 0) (deliveryOwnAt (h .nsources) (h .deliveries)) (delivery-step h) (s .kept) (h .ndeliveries) (p .deliveries) in
-      let d = all-fed _ (λ k. soFar h (h .nsources) (h .ndeliveries) k) (λ k. tablesTo h (h .nsources) (h .ndeliveries) k) (directOwnAt h) (direct-step h) (t .kept) (h .ndirects) (p .directs) in
+  given-lines f p =
+      let s = all-fed _ (λ i. soFar h i 0 0) (λ i. tablesTo h i 0 0) (sourceOwnAt (h .sources)) (source-step h) (started-kept h) (h .nsources) (entries-own _ _ _ (f .sources) (p .sources .all)) in
+      let t = all-fed _ (λ j. soFar h (h .nsources) j 0) (λ j. tablesTo h (h .nsources) j 0) (deliveryOwnAt (h .nsources) (h .deliveries)) (delivery-step h) (s .kept) (h .ndeliveries) (entries-own _ _ _ (f .deliveries) (p .deliveries .all)) in
+      let d = all-fed _ (λ k. soFar h (h .nsources) (h .ndeliveries) k) (λ k. tablesTo h (h .nsources) (h .ndeliveries) k) (directOwnAt h) (direct-step h) (t .kept) (h .ndirects) (entries-own _ _ _ (f .directs) (p .directs .all)) in
       record {
         fed = ap (feed (soFar h 0 0 0)) body-is ∙ feed-append (sourceLines (h .nsources)) (deliveryLines (h .ndeliveries) ++ directLines (h .ndirects)) (soFar h 0 0 0)
             ∙ rw (s .fed) (feed-append (deliveryLines (h .ndeliveries)) (directLines (h .ndirects)) (soFar h (h .nsources) 0 0) ∙ rw (t .fed) (d .fed));
@@ -71,19 +72,20 @@ module _ (h : Hour) where
   whole : Few (countsOf h) → Passes h → soFar h (h .nsources) (h .ndeliveries) (h .ndirects) ≡ h
   whole f p =
       rw (
-        filled (h .sources) blankSource noSource sourceBlank blank-source (h .nsources) (f .sources) (p .sources-rest),
-        filled (h .deliveries) blankDelivery noDelivery deliveryBlank blank-delivery (h .ndeliveries) (f .deliveries) (p .deliveries-rest),
-        filled (h .directs) blankDirect noDirect directBlank blank-direct (h .ndirects) (f .directs) (p .directs-rest),
+        filled (h .sources) blankSource noSource sourceBlank blank-source _ (h .nsources) (f .sources) (p .sources),
+        filled (h .deliveries) blankDelivery noDelivery deliveryBlank blank-delivery _ (h .ndeliveries) (f .deliveries) (p .deliveries),
+        filled (h .directs) blankDirect noDirect directBlank blank-direct _ (h .ndirects) (f .directs) (p .directs),
       )
 
   own-lines : Passes h → OwnLines h
   unfolding reading.headed
   own-lines p =
-      let g = given-lines p in
+      let few = few-from (countsOf h) (p .few) in
+      let g = given-lines few p in
       let f = accepts-told (finished h) (p .done) in
       record {
         head = rw (losses-inside (h .losses, tt), p .losses);
-        fed = ap (λ (m : Hour). feed m (body h)) (started-is h) ∙ g .fed ∙ ap accepted (whole (few-from (countsOf h) (p .few)) p);
+        fed = ap (λ (m : Hour). feed m (body h)) (started-is h) ∙ g .fed ∙ ap accepted (whole few p);
         done = f .1 ∙ ap accepted (sym (finished-passed h (f .0) (f .1) .same));
         labels = g .labels;
       }
@@ -121,12 +123,9 @@ module _ (h : Hour) where
       record {
         few = few-to (countsOf h) f;
         losses = sym (losses-inside (h .losses, tt)) ∙ head-passed h (started (h .losses)) (o .head) .0;
-        sources = l .sources;
-        deliveries = l .deliveries;
-        directs = l .directs;
-        sources-rest = record { size = g .sources .size; blanks = λ i l m. ap sourceBlank (g .sources .rest i l m) ∙ blanks-blank .0 };
-        deliveries-rest = record { size = g .deliveries .size; blanks = λ i l m. ap deliveryBlank (g .deliveries .rest i l m) ∙ blanks-blank .1 };
-        directs-rest = record { size = g .directs .size; blanks = λ i l m. ap directBlank (g .directs .rest i l m) ∙ blanks-blank .2 };
+        sources = record { size = g .sources .size; all = all-stand _ _ _ (l .sources) (λ i l m. ap sourceBlank (g .sources .rest i l m) ∙ blanks-blank .0) };
+        deliveries = record { size = g .deliveries .size; all = all-stand _ _ _ (l .deliveries) (λ i l m. ap deliveryBlank (g .deliveries .rest i l m) ∙ blanks-blank .1) };
+        directs = record { size = g .directs .size; all = all-stand _ _ _ (l .directs) (λ i l m. ap directBlank (g .directs .rest i l m) ∙ blanks-blank .2) };
         done = rw (o .done);
       }
 

@@ -52,7 +52,7 @@ use Rattle.record.specs.ShapeTells.{own-labelled, labelled-own}
 use Rattle.record.specs.Own as own
 use Rattle.record.specs.Own.{accepts, fillTo, tablesTo, counts, slosTo, shisTo, tlosTo, thisTo, sourceOwnAt, deliveryOwnAt, directOwnAt}
 use Rattle.record.specs.Fill.{fillTo-made}
-use Rattle.record.specs.Steps.{direct-own}
+use Rattle.record.specs.OwnTells.{direct-own}
 use Rattle.record.specs.Turns.{Extends, fed-extends, Step}
 
 -- the first i sources, j deliveries and k D entries, and blanks after them

@@ -1,111 +1,200 @@
--- The loops over a record's own entries: their steps and their ends.
-use mathlib.Core.Path.{_≡_, ap, sym, _∙_}
-use mathlib.Core.Bool.{Bool, true, false, not, _&&_}
+-- The loops over a record's own places: their steps and their ends.
+use mathlib.Core.Path.{_≡_, refl, ap, sym, _∙_}
+use mathlib.Core.Bool.{Bool, true, false, _&&_, _||_}
 use mathlib.Core.List.{List}
-use Prim.Native.Nat.{ℕ, _+_, _<_, _≤_}
+use Prim.Native.Nat.{ℕ, suc, _+_, _<_, _≤_, min}
 use native.Mathlib.Decide.{decLt}
-use native.Mathlib.Numerals.{add-one}
 use native.Mathlib.Omega.{arith}
-use lib.Dec.{leb, ltb, eqb}
+use lib.Dec.{ltb}
 use lib.ListN.{getD, set}
-use borrow.Author.Tests.{not-true, ltb-true, ltb-false, leb-true, le-leb, lt-leb, lt-ltb, le-ltb}
+use borrow.Author.Tests.{lt-ltb, le-ltb}
+use Rattle.rules.specs.Words.{if_then_else_, allTo}
 use Rattle.rules.specs.Group.{noDirect}
-use Rattle.rules.specs.declared.Source.{Source}
-use Rattle.rules.specs.declared.Delivery.{Delivery}
-use Rattle.rules.specs.declared.Direct.{Direct}
-use Rattle.laws.specs.Choices.{both-true}
-use Rattle.ranges.specs.Inside.{directInside}
-use Rattle.line_rules.specs.Tried.{Few, basisCode, codeLeaves, belowMost}
-use Rattle.line_rules.specs.declared.Spelling.{Spelling}
-use Rattle.line_rules.specs.declared.Counts.{Counts}
-use Rattle.record.specs.Shape.{ownLabel}
+use Rattle.rules.specs.Sequences.{noDelivery}
+use Rattle.rules.specs.Record.{noSource, blankSource, blankDelivery}
+use Rattle.rules.specs.declared.Hour.{Hour}
+use Rattle.line_rules.specs.Finds.{allTo-zero}
+use Rattle.line_rules.specs.Tried.{countsOf, unitHigh, basisCode, aboveOne}
+use Rattle.line_rules.specs.Totalled.{noTotals, sourceTotalled, deliveryTotalled, Totalled, totalled-none, totalled-source, totalled-delivery}
+use Rattle.line_rules.specs.declared.Totals.{Totals}
+use Rattle.record.specs.ShapeTells.{blank-source, blank-delivery}
+use Rattle.record.specs.Loops.{allTo-on, allTo-fails, allTo-each, allTo-from}
 use Rattle.record.specs.Own as own
-use Rattle.record.specs.Own.{basedTo, percentsTo, sourceRuled, sourceOwn, deliveryRuled, deliveryOwn, directRuled, directOwn, fewEntries}
+use Rattle.record.specs.Own.{fillTo, zeros, sourceSpelling, deliverySpelling, slosTo, shisTo, highsTo, tlosTo, thisTo, basedTo, percentsTo, sourceStands, deliveryStands, directStands, setIf, stands, sourceStandsAt, deliveryStandsAt, directStandsAt}
 
--- Sources and deliveries.
+-- All places.
 
-module _ (i : ℕ) (x : Source) (spelling : Spelling) (lo hi : List ℕ) where
-  pub source-unlabelled : ownLabel (x .label) ≡ false → sourceOwn i x spelling lo hi ≡ false
-  unfolding own.sourceOwn
-  source-unlabelled e = rw e
+module _ (own blank : ℕ → Bool) (n : ℕ) where
+  pub entries-own : n ≤ 32 → allTo (stands own blank n) 32 ≡ true → allTo own n ≡ true
+  entries-own few e = allTo-from own n (λ i l. rw (lt-ltb i n l) at (allTo-each (stands own blank n) 32 e i (omega arith)))
 
-  pub source-labelled : (r : Bool) (spelling′ : Spelling) (lo′ hi′ : List ℕ) → ownLabel (x .label) ≡ true → spelling′ ≡ spelling → lo′ ≡ lo → hi′ ≡ hi → r ≡ sourceRuled i (x .plant) spelling′ lo′ hi′
-      → sourceOwn i x spelling lo hi ≡ r
-  unfolding own.sourceOwn
-  source-labelled r spelling′ lo′ hi′ e k l h q = rw (e, ← k, ← l, ← h) (sym q)
+  pub rest-blank : allTo (stands own blank n) 32 ≡ true → (i : ℕ) → n ≤ i → i < 32 → blank i ≡ true
+  rest-blank e i l m = rw (le-ltb i n l) at (allTo-each (stands own blank n) 32 e i m)
 
-module _ (n j : ℕ) (x : Delivery) (spelling : Spelling) (lo hi : List ℕ) where
-  pub delivery-unlabelled : ownLabel (x .label) ≡ false → deliveryOwn n j x spelling lo hi ≡ false
-  unfolding own.deliveryOwn
-  delivery-unlabelled e = rw e
+  pub all-stand : allTo own n ≡ true → ((i : ℕ) → n ≤ i → i < 32 → blank i ≡ true) → allTo (stands own blank n) 32 ≡ true
+  all-stand e f = allTo-from (stands own blank n) 32 (λ i l. elim (decLt i n) [
+    | yes k ↦ rw (lt-ltb i n k) (allTo-each own n e i k)
+    | no k ↦ rw (le-ltb i n (omega arith)) (f i (omega arith) l)
+  ])
 
-  pub delivery-labelled : (r : Bool) (spelling′ : Spelling) (lo′ hi′ : List ℕ) → ownLabel (x .label) ≡ true → spelling′ ≡ spelling → lo′ ≡ lo → hi′ ≡ hi → r ≡ deliveryRuled n j x spelling′ lo′ hi′
-      → deliveryOwn n j x spelling lo hi ≡ r
-  unfolding own.deliveryOwn
-  delivery-labelled r spelling′ lo′ hi′ e k l h q = rw (e, ← k, ← l, ← h) (sym q)
+-- One place more.
 
--- D entries.
+-- i places, of which the first n have an entry: what is kept of these
+module _ (n i : ℕ) where
+  at-entry : i < n → (min i n ≡ i) × (min (i + 1) n ≡ suc i)
+  at-entry l = (omega arith, omega arith)
 
-pub direct-same : (n : Counts) (x : Direct) (high high′ based based′ percents percents′ : List ℕ) → high ≡ high′ → based ≡ based′ → percents ≡ percents′
-    → directOwn n x high based percents ≡ directOwn n x high′ based′ percents′
-direct-same n x high high′ based based′ percents percents′ p q r = rw (p, q, r)
+  at-blank : n ≤ i → min (i + 1) n ≡ min i n
+  at-blank l = omega arith
 
--- what an entry that is let through has shown
-pub record DirectOwn (n : Counts) (x : Direct) (high based percents : List ℕ) : Type 0 where
-  pub source : x .source < n .sources
-  pub delivery : x .delivery < n .deliveries
-  pub ruled : directRuled n x high based percents ≡ true
+  -- its test, by tables that are those of the entries before it
+  place-here : (r own own′ blank : Bool) → r ≡ (if ltb i n then own′ else blank) → (i < n → own′ ≡ own) → (if ltb i n then own else blank) ≡ r
+  place-here r own own′ blank e same = sym (e ∙ elim (decLt i n) [ yes l ↦ rw (lt-ltb i n l, same l) | no l ↦ rw (le-ltb i n (omega arith)) ])
 
-pub direct-own : (n : Counts) (x : Direct) (high based percents : List ℕ) → directOwn n x high based percents ≡ true → DirectOwn n x high based percents
-unfolding own.directOwn
-direct-own n x high based percents e =
-    let a = both-true (ltb (x .source) (n .sources)) _ e in
-    let b = both-true (ltb (x .delivery) (n .deliveries)) (directRuled n x high based percents) (a .1) in
-    record { source = ltb-true (x .source) (n .sources) (a .0); delivery = ltb-true (x .delivery) (n .deliveries) (b .0); ruled = b .1 }
+  -- a table: it has the entry of a place that stands
+  table-on : (to : ℕ → List ℕ) (before after now : List ℕ) (r : Bool) → r ≡ true → before ≡ to (min i n) → (before ≡ to i → after ≡ to (suc i))
+      → now ≡ (if ltb i n && r then after else before) → now ≡ to (min (i + 1) n)
+  table-on to before after now r is p on e = elim (decLt i n) [
+    | yes l ↦ rw (lt-ltb i n l, is) at e ∙ on (p ∙ ap to (at-entry l .0)) ∙ ap to (sym (at-entry l .1))
+    | no l ↦ rw (le-ltb i n (omega arith)) at e ∙ p ∙ ap to (sym (at-blank (omega arith)))
+  ]
 
--- its unit's percents with its own
-pub own-total : (n : Counts) (x : Direct) (high based percents : List ℕ) → directOwn n x high based percents ≡ true → getD percents (x .source) 0 + x .percent ≤ 100
-own-total n x high based percents e =
-    let a = both-true (directInside (x .basis) (x .percent)) _ (direct-own n x high based percents e .ruled) in
-    let b = both-true (not (leb 32 (n .directs))) _ (a .1) in
-    let c = both-true (not (eqb (getD high (x .source) 0) 0)) _ (b .1) in
-    let d = both-true (codeLeaves (getD based (x .source) 0) (x .basis) && belowMost (x .basis) (getD high (x .source) 0)) _ (c .1) in
-    ltb-false 100 (getD percents (x .source) 0 + x .percent) (not-true _ (d .1))
+  fill-on : (f : ℕ → ℕ) (before now : List ℕ) (r : Bool) → r ≡ true → before ≡ fillTo f zeros (min i n) → now ≡ setIf (ltb i n && r) before i (f i) → now ≡ fillTo f zeros (min (i + 1) n)
+  unfolding own.fillTo
+  fill-on f before now r is p e = table-on (fillTo f zeros) before (set before i (f i)) now r is p (λ q. rw q) e
 
--- two numbers whose sum is within a bound is not over it
-pub sum-not-over : {r s a b : ℕ} (most : ℕ) → r ≡ a → s ≡ b → leb (r + s) most ≡ not (ltb most (a + b))
-sum-not-over {r} {s} {a} {b} most p q = elim (decLt most (a + b)) [
-  | yes l ↦ rw (lt-ltb most (a + b) l) (lt-leb (r + s) most (omega arith))
-  | no l ↦ rw (le-ltb most (a + b) (omega arith)) (le-leb (r + s) most (omega arith))
-]
+  -- the totals: a blank place adds nothing
+  totals-on : (P : ℕ → Totals → Type 0) (t u v : Totals) → P (min i n) t → u ≡ v → (i < n → P i t → P (i + 1) u) → (n ≤ i → v ≡ t) → P (min (i + 1) n) u
+  totals-on P t u v k e on none = elim (decLt i n) [
+    | yes l ↦ (let a : min (i + 1) n ≡ i + 1 = omega arith in rw a (on l (rw (at-entry l .0) at k)))
+    | no l ↦ rw (at-blank (omega arith), e ∙ none (omega arith)) k
+  ]
 
-module _ (directs : List Direct) where
-  abbrev at : ℕ → Direct
-  at k = getD directs k noDirect
+-- after all 32 places what is kept is of all n entries
+pub places-all : (P : ℕ → ℕ → Type 0) (i n : ℕ) → P i (min i n) → n ≤ 32 → i ≤ 32 → 32 ≤ i → P 32 n
+places-all P i n p few most all =
+    let a : i ≡ 32 = omega arith in
+    let b : min i n ≡ n = omega arith in
+    rw (b, a) at p
 
-  pub basedTo-more : (bs : List ℕ) (k code : ℕ) → bs ≡ basedTo directs k → code ≡ basisCode (at k .basis) → set bs (at k .source) code ≡ basedTo directs (k + 1)
-  unfolding own.basedTo
-  basedTo-more bs k code p q = rw (add-one k, p, q)
+same-totals : (t : Totals) (g d : ℕ) (b : Bool) → g ≡ t .generated → d ≡ t .delivered → b ≡ t .numbered → record { generated = g; delivered = d; numbered = b } ≡ t
+same-totals t g d b p q r = rw (p, q, r)
 
-  pub percentsTo-more : (ps : List ℕ) (k : ℕ) → ps ≡ percentsTo directs k → set ps (at k .source) (getD ps (at k .source) 0 + at k .percent) ≡ percentsTo directs (k + 1)
-  unfolding own.percentsTo
-  percentsTo-more ps k p = rw (add-one k, p)
+or-false : (b : Bool) → (b || false) ≡ b
+or-false true = refl
+or-false false = refl
 
--- Counts.
+-- the first i places of sources stand, and the first m entries are in the tables and the totals
+pub record SourcesTo (h : Hour) (lo hi high : List ℕ) (t : Totals) (i m : ℕ) : Type 0 where
+  pub stand : allTo (sourceStandsAt h) i ≡ true
+  pub los : lo ≡ slosTo (h .sources) m
+  pub his : hi ≡ shisTo (h .sources) m
+  pub highs : high ≡ highsTo (h .sources) m
+  pub totals : Totalled (h .sources) m (h .deliveries) 0 t
 
-pub few-from : (n : Counts) → fewEntries n ≡ true → Few n
-unfolding own.fewEntries
-few-from n e =
-    let a = both-true (leb (n .sources) 32) _ e in
-    let b = both-true (leb (n .deliveries) 32) (leb (n .directs) 32) (a .1) in
-    record { sources = leb-true (n .sources) 32 (a .0); deliveries = leb-true (n .deliveries) 32 (b .0); directs = leb-true (n .directs) 32 (b .1) }
+pub sources-none : (h : Hour) → SourcesTo h zeros zeros zeros noTotals 0 (min 0 (h .nsources))
+unfolding own.fillTo
+sources-none h =
+    let none : min 0 (h .nsources) ≡ 0 = omega arith in
+    rw none (record { stand = allTo-zero _; los = refl; his = refl; highs = refl; totals = totalled-none _ _ })
 
-pub few-to : (n : Counts) → Few n → fewEntries n ≡ true
-unfolding own.fewEntries
-few-to n f = rw (le-leb (n .sources) 32 (f .sources), le-leb (n .deliveries) 32 (f .deliveries), le-leb (n .directs) 32 (f .directs))
+module _ (h : Hour) (i : ℕ) (lo hi high : List ℕ) (t : Totals) (s : SourcesTo h lo hi high t i (min i (h .nsources))) (r : Bool)
+    (e : r ≡ sourceStands (countsOf h) i (getD (h .sources) i noSource) lo hi) where
+  source-here : sourceStandsAt h i ≡ r
+  unfolding own.sourceStands
+  source-here = place-here (h .nsources) i r _ _ _ e (λ l. rw (s .los, s .his, at-entry (h .nsources) i l .0))
 
--- Blanks.
+  source-blank : r ≡ true → h .nsources ≤ i → getD (h .sources) i noSource ≡ blankSource
+  unfolding own.sourceStands
+  source-blank is l = blank-source _ (rw (le-ltb i (h .nsources) l) at (sym e ∙ is))
 
--- what holds from n on, before i, and at i
-pub from-on : (p : ℕ → Bool) (n i : ℕ) → ((k : ℕ) → n ≤ k → k < i → p k ≡ true) → p i ≡ true → (k : ℕ) → n ≤ k → k < i + 1 → p k ≡ true
-from-on p n i f e k l m = elim (decLt k i) [ yes s ↦ f k l s | no s ↦ (let q : k ≡ i = omega arith in ap p q ∙ e) ]
+  pub source-fails : r ≡ false → i < 32 → allTo (sourceStandsAt h) 32 ≡ false
+  source-fails is l = allTo-fails (sourceStandsAt h) 32 i l (source-here ∙ is)
+
+  pub sources-on : r ≡ true → (lo′ hi′ high′ : List ℕ) (u : Totals) → lo′ ≡ setIf (ltb i (h .nsources) && r) lo i (sourceSpelling (h .sources) i .lo)
+      → hi′ ≡ setIf (ltb i (h .nsources) && r) hi i (sourceSpelling (h .sources) i .hi) → high′ ≡ setIf (ltb i (h .nsources) && r) high i (unitHigh (getD (h .sources) i noSource .plant))
+      → u ≡ sourceTotalled t (getD (h .sources) i noSource .plant) → u .generated ≤ t .generated + aboveOne → SourcesTo h lo′ hi′ high′ u (i + 1) (min (i + 1) (h .nsources))
+  sources-on is lo′ hi′ high′ u p q w sum most =
+      let n = h .nsources in
+      record {
+        stand = allTo-on (sourceStandsAt h) i (s .stand) (source-here ∙ is);
+        los = fill-on n i _ lo lo′ r is (s .los) p;
+        his = fill-on n i _ hi hi′ r is (s .his) q;
+        highs = fill-on n i _ high high′ r is (s .highs) w;
+        totals = totals-on n i (λ i t. Totalled (h .sources) i (h .deliveries) 0 t) t u (sourceTotalled t (getD (h .sources) i noSource .plant)) (s .totals) sum
+            (λ l k. totalled-source (h .sources) i (h .deliveries) 0 t k (h .sources) (getD (h .sources) i noSource) u (λ i l. refl) refl sum most)
+            (λ l. rw (source-blank is l) (same-totals t _ _ _ (omega arith) refl refl));
+      }
+
+-- of deliveries, after all sources
+pub record DeliveriesTo (h : Hour) (lo hi : List ℕ) (t : Totals) (j m : ℕ) : Type 0 where
+  pub stand : allTo (deliveryStandsAt h) j ≡ true
+  pub los : lo ≡ tlosTo (h .deliveries) m
+  pub his : hi ≡ thisTo (h .deliveries) m
+  pub totals : Totalled (h .sources) (h .nsources) (h .deliveries) m t
+
+pub deliveries-none : (h : Hour) (t : Totals) → Totalled (h .sources) (h .nsources) (h .deliveries) 0 t → DeliveriesTo h zeros zeros t 0 (min 0 (h .ndeliveries))
+unfolding own.fillTo
+deliveries-none h t k =
+    let none : min 0 (h .ndeliveries) ≡ 0 = omega arith in
+    rw none (record { stand = allTo-zero _; los = refl; his = refl; totals = k })
+
+module _ (h : Hour) (j : ℕ) (lo hi : List ℕ) (t : Totals) (s : DeliveriesTo h lo hi t j (min j (h .ndeliveries))) (r : Bool)
+    (e : r ≡ deliveryStands (countsOf h) j (getD (h .deliveries) j noDelivery) lo hi) where
+  delivery-here : deliveryStandsAt h j ≡ r
+  unfolding own.deliveryStands
+  delivery-here = place-here (h .ndeliveries) j r _ _ _ e (λ l. rw (s .los, s .his, at-entry (h .ndeliveries) j l .0))
+
+  delivery-blank : r ≡ true → h .ndeliveries ≤ j → getD (h .deliveries) j noDelivery ≡ blankDelivery
+  unfolding own.deliveryStands
+  delivery-blank is l = blank-delivery _ (rw (le-ltb j (h .ndeliveries) l) at (sym e ∙ is))
+
+  pub delivery-fails : r ≡ false → j < 32 → allTo (deliveryStandsAt h) 32 ≡ false
+  delivery-fails is l = allTo-fails (deliveryStandsAt h) 32 j l (delivery-here ∙ is)
+
+  pub deliveries-on : r ≡ true → (lo′ hi′ : List ℕ) (u : Totals) → lo′ ≡ setIf (ltb j (h .ndeliveries) && r) lo j (deliverySpelling (h .deliveries) j .lo)
+      → hi′ ≡ setIf (ltb j (h .ndeliveries) && r) hi j (deliverySpelling (h .deliveries) j .hi)
+      → u ≡ deliveryTotalled t (getD (h .deliveries) j noDelivery) → u .delivered ≤ t .delivered + aboveOne → DeliveriesTo h lo′ hi′ u (j + 1) (min (j + 1) (h .ndeliveries))
+  deliveries-on is lo′ hi′ u p q sum most =
+      let n = h .ndeliveries in
+      record {
+        stand = allTo-on (deliveryStandsAt h) j (s .stand) (delivery-here ∙ is);
+        los = fill-on n j _ lo lo′ r is (s .los) p;
+        his = fill-on n j _ hi hi′ r is (s .his) q;
+        totals = totals-on n j (λ j t. Totalled (h .sources) (h .nsources) (h .deliveries) j t) t u (deliveryTotalled t (getD (h .deliveries) j noDelivery)) (s .totals) sum
+            (λ l k. totalled-delivery (h .sources) (h .nsources) (h .deliveries) j t k (h .deliveries) (getD (h .deliveries) j noDelivery) u (λ i l. refl) refl sum most)
+            (λ l. rw (delivery-blank is l) (same-totals t _ _ _ refl (omega arith) (or-false (t .numbered))));
+      }
+
+-- of D entries, after all sources and deliveries
+pub record DirectsTo (h : Hour) (based percents : List ℕ) (k m : ℕ) : Type 0 where
+  pub stand : allTo (directStandsAt h) k ≡ true
+  pub codes : based ≡ basedTo (h .directs) m
+  pub sums : percents ≡ percentsTo (h .directs) m
+
+pub directs-none : (h : Hour) → DirectsTo h zeros zeros 0 (min 0 (h .ndirects))
+unfolding own.basedTo own.percentsTo
+directs-none h =
+    let none : min 0 (h .ndirects) ≡ 0 = omega arith in
+    rw none (record { stand = allTo-zero _; codes = refl; sums = refl })
+
+module _ (h : Hour) (k : ℕ) (high based percents : List ℕ) (highs : high ≡ highsTo (h .sources) (h .nsources)) (s : DirectsTo h based percents k (min k (h .ndirects))) (r : Bool)
+    (e : r ≡ directStands (countsOf h) k (getD (h .directs) k noDirect) high based percents) where
+  direct-here : directStandsAt h k ≡ r
+  unfolding own.directStands
+  direct-here = place-here (h .ndirects) k r _ _ _ e (λ l. rw (highs, s .codes, s .sums, at-entry (h .ndirects) k l .0))
+
+  pub direct-fails : r ≡ false → k < 32 → allTo (directStandsAt h) 32 ≡ false
+  direct-fails is l = allTo-fails (directStandsAt h) 32 k l (direct-here ∙ is)
+
+  pub directs-on : r ≡ true → (based′ percents′ : List ℕ)
+      → based′ ≡ setIf (ltb k (h .ndirects) && r) based (getD (h .directs) k noDirect .source) (basisCode (getD (h .directs) k noDirect .basis))
+      → percents′ ≡ setIf (ltb k (h .ndirects) && r) percents (getD (h .directs) k noDirect .source) (getD percents (getD (h .directs) k noDirect .source) 0 + getD (h .directs) k noDirect .percent)
+      → DirectsTo h based′ percents′ (k + 1) (min (k + 1) (h .ndirects))
+  unfolding own.basedTo own.percentsTo
+  directs-on is based′ percents′ p q =
+      record {
+        stand = allTo-on (directStandsAt h) k (s .stand) (direct-here ∙ is);
+        codes = table-on (h .ndirects) k (basedTo (h .directs)) based _ based′ r is (s .codes) (λ e. rw e) p;
+        sums = table-on (h .ndirects) k (percentsTo (h .directs)) percents _ percents′ r is (s .sums) (λ e. rw e) q;
+      }

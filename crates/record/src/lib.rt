@@ -1,12 +1,16 @@
 // The test of 15: whether a deck gives an hour record, by the functions that try a deck's lines.
-// The contract of valid cites rules' Writing; the others cite Own, the test entry by entry.
+// The contract of valid cites rules' Writing; the others cite Own, the test place by place.
 mod shape;
 
 ghost use mathlib.Core.Path.{_≡_};
-ghost use Prim.Native.Nat.{_≤_, _<_};
+ghost use mathlib.Core.Bool.{_&&_};
+ghost use Prim.Native.Nat.{_+_, _≤_, _<_};
+ghost use lib.Dec.{ltb};
+ghost use lib.ListN.{getD};
 ghost use Rattle.rules.specs.Writing as writing;
-ghost use Rattle.line_rules.specs.Tried.{Few};
-ghost use Rattle.record.specs.Own.{sourceRuled, deliveryRuled, directOwn, fewEntries};
+ghost use Rattle.line_rules.specs.Spellings.{spellingOf};
+ghost use Rattle.line_rules.specs.Tried.{Few, unitHigh, basisCode};
+ghost use Rattle.record.specs.Own.{sourceRuled, deliveryRuled, directOwn, setIf, sourceStands, deliveryStands, directStands, fewEntries};
 use line_rules::Counts;
 use line_rules::Spelling;
 use line_rules::Totals;
@@ -14,6 +18,7 @@ use rules::Delivery;
 use rules::Direct;
 use rules::Hour;
 use rules::Plant;
+use rules::Source;
 use rules::Verdict;
 
 // A source with a label, after i others.
@@ -98,6 +103,87 @@ fn direct_given(
     line_rules::wide(percents[s]) + line_rules::wide(x.percent) <= 100
 }
 
+// A place of each class, after those before it: below the count its entry is let through and kept, from there on it is blank.
+
+fn source_stands(
+    n: Counts,
+    i: usize,
+    x: Source,
+    lo: &mut [u64; 32],
+    hi: &mut [u64; 32],
+    high: &mut [u32; 32],
+) -> bool
+    requires { ⌜ i < 32 ⌝ }
+    ensures { λ r. ⌜ r ≡ sourceStands n i x (now (lo .entry)) (now (hi .entry)) ⌝ }
+    ensures lo { λ r. ⌜ now (lo .exit) ≡ setIf (ltb i (n .sources) && r) (now (lo .entry)) i (spellingOf (x .label) .lo) ⌝ }
+    ensures hi { λ r. ⌜ now (hi .exit) ≡ setIf (ltb i (n .sources) && r) (now (hi .entry)) i (spellingOf (x .label) .hi) ⌝ }
+    ensures high { λ r. ⌜ now (high .exit) ≡ setIf (ltb i (n .sources) && r) (now (high .entry)) i (unitHigh (x .plant)) ⌝ }
+{
+    if n.sources <= i {
+        return shape::is_blank_source(x);
+    }
+    let l = x.label;
+    if !shape::is_label(l) {
+        return false;
+    }
+    let k = line_rules::spelling_of(l);
+    let p = x.plant;
+    if !source_given(i, p, k, lo, hi) {
+        return false;
+    }
+    line_rules::keep_source(i, k, p, lo, hi, high);
+    true
+}
+
+fn delivery_stands(n: Counts, j: usize, x: Delivery, lo: &mut [u64; 32], hi: &mut [u64; 32]) -> bool
+    requires { ⌜ Few n × (j < 32) ⌝ }
+    ensures { λ r. ⌜ r ≡ deliveryStands n j x (now (lo .entry)) (now (hi .entry)) ⌝ }
+    ensures lo { λ r. ⌜ now (lo .exit) ≡ setIf (ltb j (n .deliveries) && r) (now (lo .entry)) j (spellingOf (x .label) .lo) ⌝ }
+    ensures hi { λ r. ⌜ now (hi .exit) ≡ setIf (ltb j (n .deliveries) && r) (now (hi .entry)) j (spellingOf (x .label) .hi) ⌝ }
+{
+    if n.deliveries <= j {
+        return shape::is_blank_delivery(x);
+    }
+    let l = x.label;
+    if !shape::is_label(l) {
+        return false;
+    }
+    let k = line_rules::spelling_of(l);
+    if !delivery_given(n.sources, j, x, k, lo, hi) {
+        return false;
+    }
+    line_rules::keep_spelling(j, k, lo, hi);
+    true
+}
+
+fn direct_stands(
+    n: Counts,
+    k: usize,
+    x: Direct,
+    high: &[u32; 32],
+    based: &mut [u64; 32],
+    percents: &mut [u32; 32],
+) -> bool
+    requires { ⌜ Few n × (k < 32) ⌝ }
+    ensures { λ r. ⌜ r ≡ directStands n k x (now (high .entry)) (now (based .entry)) (now (percents .entry)) ⌝ }
+    ensures based { λ r. ⌜ now (based .exit) ≡ setIf (ltb k (n .directs) && r) (now (based .entry)) (x .source) (basisCode (x .basis)) ⌝ }
+    ensures percents { λ r. ⌜ now (percents .exit) ≡ setIf (ltb k (n .directs) && r) (now (percents .entry)) (x .source) (getD (now (percents .entry)) (x .source) 0 + x .percent) ⌝ }
+{
+    if n.directs <= k {
+        return shape::is_blank_direct(x);
+    }
+    let before = Counts {
+        sources: n.sources,
+        deliveries: n.deliveries,
+        directs: k,
+    };
+    if !direct_given(before, x, high, based, percents) {
+        return false;
+    }
+    line_rules::keep_direct(x, based, percents);
+    true
+}
+
 fn few_entries(n: Counts) -> bool
     ensures { λ r. ⌜ r ≡ fewEntries n ⌝ }
 {
@@ -110,7 +196,7 @@ fn few_entries(n: Counts) -> bool
     n.directs <= 32
 }
 
-// Whether some deck gives the record (15): each entry is let through after those before it, the places past the counts are blank, and 10 and 11 are kept.
+// Whether some deck gives the record (15): every place stands, and 10 and 11 are kept; a blank adds nothing to the totals.
 // It owns the loops, so that the hour is not copied.
 pub fn valid(h: Hour) -> bool
     ensures { λ r. ⌜ r ≡ writing.valid h ⌝ }
@@ -126,84 +212,44 @@ pub fn valid(h: Hour) -> bool
     if !ranges::losses_in_range(h.losses) {
         return false;
     }
-    let mut slo = [0u64; 32];
-    let mut shi = [0u64; 32];
-    let mut high = [0u32; 32];
     let mut totals = Totals {
         generated: 0,
         delivered: 0,
         numbered: false,
     };
+    let mut slo = [0u64; 32];
+    let mut shi = [0u64; 32];
+    let mut high = [0u32; 32];
     let mut i: usize = 0;
-    while i < n.sources {
+    while i < 32 {
         let x = h.sources[i];
-        let l = x.label;
-        if !shape::is_label(l) {
+        if !source_stands(n, i, x, &mut slo, &mut shi, &mut high) {
             return false;
         }
-        let k = line_rules::spelling_of(l);
         let p = x.plant;
-        if !source_given(i, p, k, &slo, &shi) {
-            return false;
-        }
-        line_rules::keep_spelling(i, k, &mut slo, &mut shi);
-        high[i] = line_rules::unit_high(p);
         totals = line_rules::add_source(totals, p);
         i += 1;
     }
     let mut tlo = [0u64; 32];
     let mut thi = [0u64; 32];
     let mut j: usize = 0;
-    while j < n.deliveries {
+    while j < 32 {
         let x = h.deliveries[j];
-        let l = x.label;
-        if !shape::is_label(l) {
+        if !delivery_stands(n, j, x, &mut tlo, &mut thi) {
             return false;
         }
-        let k = line_rules::spelling_of(l);
-        if !delivery_given(n.sources, j, x, k, &tlo, &thi) {
-            return false;
-        }
-        line_rules::keep_spelling(j, k, &mut tlo, &mut thi);
         totals = line_rules::add_delivery(totals, x);
         j += 1;
     }
     let mut based = [0u64; 32];
     let mut percents = [0u32; 32];
-    let mut q: usize = 0;
-    while q < n.directs {
-        let x = h.directs[q];
-        let c = Counts {
-            sources: n.sources,
-            deliveries: n.deliveries,
-            directs: q,
-        };
-        if !direct_given(c, x, &high, &based, &percents) {
+    let mut k: usize = 0;
+    while k < 32 {
+        let x = h.directs[k];
+        if !direct_stands(n, k, x, &high, &mut based, &mut percents) {
             return false;
         }
-        line_rules::keep_direct(x, &mut based, &mut percents);
-        q += 1;
-    }
-    while i < 32 {
-        let x = h.sources[i];
-        if !shape::is_blank_source(x) {
-            return false;
-        }
-        i += 1;
-    }
-    while j < 32 {
-        let x = h.deliveries[j];
-        if !shape::is_blank_delivery(x) {
-            return false;
-        }
-        j += 1;
-    }
-    while q < 32 {
-        let x = h.directs[q];
-        if !shape::is_blank_direct(x) {
-            return false;
-        }
-        q += 1;
+        k += 1;
     }
     let Verdict::Accepted = line_rules::finish(n, h.losses, totals) else {
         return false;

@@ -6,8 +6,11 @@ use Rattle.deck.proofs.delivery_refused.Tie as tie
 blank-delivery-requires : tie.Need-blank-delivery-requires
 blank-delivery-requires c κs = search needs
 
+no-totals-requires : tie.Need-no-totals-requires
+no-totals-requires c κs = search needs
+
 returns : tie.Need-returns
-returns c = rw (c .blank-delivery .ensures)
+returns c = rw (c .before .blank-delivery .ensures, c .no-totals .ensures)
 
 pub delivery-refused-spec : {M : Type 1} → statement M
-delivery-refused-spec = tie.close (tie.spec blank-delivery-requires returns)
+delivery-refused-spec = tie.close (tie.spec blank-delivery-requires no-totals-requires returns)

@@ -10,9 +10,14 @@ blank-source-requires c κs = search needs
 blank-delivery-requires : tie.Need-blank-delivery-requires
 blank-delivery-requires c κs = search needs
 
+blank-direct-requires : tie.Need-blank-direct-requires
+blank-direct-requires c κs = search needs
+
 returns : tie.Need-returns
 unfolding record-of.started
-returns c = rw (c .before .blank-source .ensures, c .blank-delivery .ensures)
+returns c =
+    let delivery = c .before in
+    rw (delivery .before .blank-source .ensures, delivery .blank-delivery .ensures, c .blank-direct .ensures)
 
 pub start-spec : {M : Type 1} → statement M
-start-spec = tie.close (tie.spec blank-source-requires blank-delivery-requires returns)
+start-spec = tie.close (tie.spec blank-source-requires blank-delivery-requires blank-direct-requires returns)

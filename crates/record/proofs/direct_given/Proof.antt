@@ -3,7 +3,7 @@ use mathlib.Core.Path.{sym, _∙_}
 use borrow.Author.Tests.{lt-ltb, le-ltb, le-leb, lt-leb, eq-eqb, ne-eqb, not-true, not-false}
 use borrow.Author.Needs.{needs}
 use Rattle.record.specs.Own as own
-use Rattle.record.specs.Steps.{sum-not-over}
+use Rattle.record.specs.OwnTells.{sum-not-over}
 use Rattle.record.proofs.direct_given.Statement.{statement}
 use Rattle.record.proofs.direct_given.Tie as tie
 
