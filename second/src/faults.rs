@@ -7,21 +7,25 @@ pub enum Step {
     Reckoning,
 }
 
+/// Makes an enum of faults, right being `None`, and `ALL` with their steps and
+/// names.
 macro_rules! faults {
-    ($($step:ident { $($fault:ident $name:literal,)* })*) => {
+    ($faults:ident: $($step:ident { $($fault:ident $name:literal,)* })*) => {
         #[derive(Clone, Copy, Debug, PartialEq)]
-        pub enum Fault {
+        pub enum $faults {
             None,
             $($($fault,)*)*
         }
 
-        pub const ALL: &[(Fault, Step, &str)] = &[
-            $($((Fault::$fault, Step::$step, $name),)*)*
+        pub const ALL: &[($faults, Step, &str)] = &[
+            $($(($faults::$fault, Step::$step, $name),)*)*
         ];
     };
 }
+pub(crate) use faults;
 
 faults! {
+    Fault:
     Reading {
         LabelsTrimmed "labels-trimmed",
         LabelsTrimmedInFront "labels-trimmed-in-front",

@@ -4,36 +4,55 @@ use crate::hour::MOST_BYTES;
 use std::io::{self, BufRead, Read, Write};
 
 enum Frame {
-    Deck(Vec<u8>),
+    Bytes(Vec<u8>),
     Broken,
     End,
 }
 
-/// No line `deck N` with an N that fits is longer.
+/// What frames hold: the name in their lines, and how much of the bytes is
+/// kept.
+#[derive(Clone, Copy)]
+pub struct Held {
+    name: &'static str,
+    kept: u64,
+}
+
+/// Of a deck too long to be read only its start is kept.
+pub const DECK: Held = Held {
+    name: "deck",
+    kept: MOST_BYTES as u64 + 1,
+};
+
+pub const FILE: Held = Held {
+    name: "file",
+    kept: u64::MAX,
+};
+
+/// No line of a name and an N that fits is longer.
 const LONGEST_LINE: u64 = 32;
 
-/// The next frame. Of a deck too long to be read only its start is kept.
-fn next(input: &mut impl BufRead) -> io::Result<Frame> {
+fn next(input: &mut impl BufRead, held: Held) -> io::Result<Frame> {
     let mut line = Vec::new();
     input.take(LONGEST_LINE).read_until(b'\n', &mut line)?;
     if line.is_empty() {
         return Ok(Frame::End);
     }
-    let Some(length) = length(&line) else {
+    let Some(length) = length(&line, held.name) else {
         return Ok(Frame::Broken);
     };
-    let kept = length.min(MOST_BYTES as u64 + 1);
-    let mut deck = Vec::new();
-    input.take(kept).read_to_end(&mut deck)?;
+    let kept = length.min(held.kept);
+    let mut bytes = Vec::new();
+    input.take(kept).read_to_end(&mut bytes)?;
     let rest = io::copy(&mut input.take(length - kept), &mut io::sink())?;
-    if deck.len() as u64 + rest < length {
+    if bytes.len() as u64 + rest < length {
         return Ok(Frame::Broken);
     }
-    Ok(Frame::Deck(deck))
+    Ok(Frame::Bytes(bytes))
 }
 
-fn length(line: &[u8]) -> Option<u64> {
-    let digits = line.strip_prefix(b"deck ")?.strip_suffix(b"\n")?;
+fn length(line: &[u8], name: &str) -> Option<u64> {
+    let digits = line.strip_prefix(name.as_bytes())?;
+    let digits = digits.strip_prefix(b" ")?.strip_suffix(b"\n")?;
     let leading = digits.len() > 1 && digits[0] == b'0';
     if leading || digits.is_empty() || !digits.iter().all(u8::is_ascii_digit) {
         return None;
@@ -46,17 +65,18 @@ pub fn put(output: &mut impl Write, name: &str, bytes: &[u8]) -> io::Result<()> 
     output.write_all(bytes)
 }
 
-/// Hands on every deck; gives the number of the broken frame that ended the
-/// run, if one did.
+/// Hands on the bytes of every frame; gives the number of the broken frame that
+/// ended the run, if one did.
 fn each(
     input: &mut impl BufRead,
+    held: Held,
     mut take: impl FnMut(Vec<u8>) -> io::Result<()>,
 ) -> io::Result<Option<u64>> {
     let mut number = 0;
     loop {
         number += 1;
-        match next(input)? {
-            Frame::Deck(deck) => take(deck)?,
+        match next(input, held)? {
+            Frame::Bytes(bytes) => take(bytes)?,
             Frame::Broken => return Ok(Some(number)),
             Frame::End => return Ok(None),
         }
@@ -66,7 +86,7 @@ fn each(
 /// All decks; without them the line that says why there are none.
 pub fn decks(input: &mut impl BufRead) -> io::Result<Result<Vec<Vec<u8>>, String>> {
     let mut decks = Vec::new();
-    let broken = each(input, |deck| {
+    let broken = each(input, DECK, |deck| {
         decks.push(deck);
         Ok(())
     })?;
@@ -77,14 +97,18 @@ pub fn decks(input: &mut impl BufRead) -> io::Result<Result<Vec<Vec<u8>>, String
     })
 }
 
-/// Answers every frame; false where a broken one ended the run.
-pub fn answer_all(
+/// Answers every frame by one of a name and its bytes; false where a broken one
+/// ended the run.
+pub fn answer_all<'a>(
     input: &mut impl BufRead,
     output: &mut impl Write,
-    name: &str,
-    answer: fn(&[u8]) -> Vec<u8>,
+    held: Held,
+    answer: impl Fn(&[u8]) -> (&'a str, Vec<u8>),
 ) -> io::Result<bool> {
-    let broken = each(input, |deck| put(output, name, &answer(&deck)))?;
+    let broken = each(input, held, |bytes| {
+        let (name, bytes) = answer(&bytes);
+        put(output, name, &bytes)
+    })?;
     if let Some(number) = broken {
         writeln!(output, "frame {number}")?;
     }

@@ -1,11 +1,13 @@
 //! A second program for the hourly reconstruction: arguments only.
 
+mod allocations;
 mod checks;
 mod course;
 mod cover;
 mod deck;
 mod draw;
 mod faults;
+mod file;
 mod frames;
 mod generate;
 mod group;
@@ -24,22 +26,25 @@ mod write;
 use std::io::{self, Read, Write};
 use std::process::ExitCode;
 
-fn batch(name: &str, answer: fn(&[u8]) -> Vec<u8>) -> io::Result<bool> {
+fn answer_all<'a>(
+    held: frames::Held,
+    answer: impl Fn(&[u8]) -> (&'a str, Vec<u8>),
+) -> io::Result<bool> {
     let mut output = io::BufWriter::new(io::stdout().lock());
-    let whole = frames::answer_all(&mut io::stdin().lock(), &mut output, name, answer)?;
+    let whole = frames::answer_all(&mut io::stdin().lock(), &mut output, held, answer)?;
     output.flush()?;
     Ok(whole)
 }
 
-fn right_report(deck: &[u8]) -> Vec<u8> {
-    report::report(deck, faults::Fault::None)
+fn batch(name: &str, answer: fn(&[u8]) -> Vec<u8>) -> io::Result<bool> {
+    answer_all(frames::DECK, |deck| (name, answer(deck)))
 }
 
 fn one_report() -> io::Result<bool> {
     let mut deck = Vec::new();
     let most = hour::MOST_BYTES as u64 + 1;
     io::stdin().lock().take(most).read_to_end(&mut deck)?;
-    io::stdout().write_all(&right_report(&deck))?;
+    io::stdout().write_all(&report::right_report(&deck))?;
     Ok(true)
 }
 
@@ -47,6 +52,16 @@ fn generate(seed: u64, count: u64) -> io::Result<bool> {
     let mut output = io::BufWriter::new(io::stdout().lock());
     for index in 0..count {
         frames::put(&mut output, "deck", &generate::deck(seed, index).deck)?;
+    }
+    output.flush()?;
+    Ok(true)
+}
+
+fn files(seed: u64, count: u64) -> io::Result<bool> {
+    let mut output = io::BufWriter::new(io::stdout().lock());
+    for index in 0..count {
+        let made = generate::files::file(seed, index);
+        frames::put(&mut output, "file", &made.file)?;
     }
     output.flush()?;
     Ok(true)
@@ -64,7 +79,7 @@ fn cover() -> io::Result<bool> {
     cover::cover(&mut io::stdin().lock(), &mut output, &mut beside)
 }
 
-/// The two numbers of `generate`, where both are numbers.
+/// The two numbers of `generate` and `files`, where both are numbers.
 fn with_numbers(
     seed: &str,
     count: &str,
@@ -77,16 +92,20 @@ fn with_numbers(
 }
 
 const USAGE: &str = "second report | batch | rewrite | cells | short | cover | test\n\
-                     second generate [--stats] SEED COUNT\nsecond telltale FAULT\n\
+                     second spreadsheet | lines\n\
+                     second generate [--stats] SEED COUNT\n\
+                     second files [--stats] SEED COUNT\nsecond telltale FAULT\n\
                      second faults [--all]";
 
 fn run(words: &[&str]) -> io::Result<bool> {
     match words {
         ["report"] => one_report(),
-        ["batch"] => batch("report", right_report),
+        ["batch"] => batch("report", report::right_report),
         ["rewrite"] => batch("rewritten", report::rewritten),
         ["cells"] => batch("cells", report::cells_text),
         ["short"] => batch("short", report::short),
+        ["spreadsheet"] => answer_all(frames::DECK, file::spreadsheet),
+        ["lines"] => answer_all(frames::FILE, file::lines),
         ["test"] => checks::run(),
         ["faults"] => faults(false),
         ["faults", "--all"] => faults(true),
@@ -94,6 +113,8 @@ fn run(words: &[&str]) -> io::Result<bool> {
         ["telltale", name] => telltale::print(name),
         ["generate", "--stats", seed, count] => with_numbers(seed, count, stats::stats),
         ["generate", seed, count] => with_numbers(seed, count, generate),
+        ["files", "--stats", seed, count] => with_numbers(seed, count, file::stats::stats),
+        ["files", seed, count] => with_numbers(seed, count, files),
         _ => {
             eprintln!("{USAGE}");
             Ok(false)

@@ -1,6 +1,7 @@
 //! The texts the commands print for one deck.
 
-use crate::course::{answer, cells, course, Answer, Pair};
+use crate::allocations::Allocations;
+use crate::course::{answer, cells, course};
 use crate::deck;
 use crate::faults::Fault;
 use crate::hour::*;
@@ -14,46 +15,22 @@ pub fn report(deck: &[u8], fault: Fault) -> Vec<u8> {
     }
 }
 
+pub fn right_report(deck: &[u8]) -> Vec<u8> {
+    report(deck, Fault::None)
+}
+
 /// The report of an hour that was read.
 pub fn of_hour(hour: &Hour, fault: Fault) -> Vec<u8> {
-    match answer(hour, fault) {
-        Ok(answer) => printed(hour, &answer, fault),
+    match allocations(hour, fault) {
+        Ok(allocations) => allocations.text(),
         Err(refusal) => refusal.text().into_bytes(),
     }
 }
 
-fn printed(hour: &Hour, answer: &Answer, fault: Fault) -> Vec<u8> {
-    let (generation, delivered) = (hour.generation(), hour.delivered());
-    let internal = generation - hour.losses - delivered;
-    let mut text =
-        format!("hour {generation} {} {delivered} {internal}\n", hour.losses).into_bytes();
-    for (at, delivery) in hour.deliveries.iter().enumerate() {
-        for (source, pair) in hour.sources.iter().zip(&answer.pairs[at]) {
-            text.extend(label::written(&delivery.label));
-            text.extend(format!(" {} ", answer.internal[at]).bytes());
-            text.extend(label::written(match fault {
-                Fault::DeliveryForSource => &delivery.label,
-                _ => &source.label,
-            }));
-            text.extend(amounts(*pair, fault).bytes());
-        }
-    }
-    for (source, [mwh, cost]) in hour.sources.iter().zip(&answer.open) {
-        text.extend(b"internal ");
-        text.extend(label::written(&source.label));
-        text.extend(format!(" {mwh} {cost}\n").bytes());
-    }
-    text.extend(b"end\n");
-    text
-}
-
-fn amounts(pair: Pair, fault: Fault) -> String {
-    let [direct, incremental, direct_cost, incremental_cost] = pair;
-    let cost = direct_cost + incremental_cost;
-    match fault {
-        Fault::MwhExchanged => format!(" {incremental} {direct} {cost}\n"),
-        _ => format!(" {direct} {incremental} {cost}\n"),
-    }
+/// The lines of an hour's report.
+pub fn allocations(hour: &Hour, fault: Fault) -> Result<Allocations, Refusal> {
+    let answer = answer(hour, fault)?;
+    Ok(Allocations::of(hour, &answer, fault))
 }
 
 pub fn rewritten(deck: &[u8]) -> Vec<u8> {

@@ -5,7 +5,7 @@ use crate::course::{answer, cells, course, generation_cost, Answer};
 use crate::deck::read;
 use crate::draw::Draw;
 use crate::faults::{named, Fault, ALL};
-use crate::frames::{answer_all, put};
+use crate::frames::{answer_all, put, DECK};
 use crate::generate::{deck, tiny};
 use crate::group::Turn;
 use crate::hour::*;
@@ -181,8 +181,8 @@ fn streams(checks: &mut Checks) {
 fn run_frames(input: &[u8]) -> (String, bool) {
     let mut output = Vec::new();
     let mut input = input;
-    let whole = answer_all(&mut input, &mut output, "report", |deck| {
-        report(deck, Fault::None)
+    let whole = answer_all(&mut input, &mut output, DECK, |deck| {
+        ("report", report(deck, Fault::None))
     });
     (
         String::from_utf8_lossy(&output).into_owned(),

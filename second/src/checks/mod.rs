@@ -2,6 +2,7 @@
 
 mod deck;
 mod examples;
+mod file;
 mod generated;
 mod reckoning;
 mod short;
@@ -70,6 +71,7 @@ pub fn run() -> io::Result<bool> {
     deck::run(&mut checks);
     reckoning::run(&mut checks);
     short::run(&mut checks);
+    file::run(&mut checks);
     generated::run(&mut checks);
     told::run(&mut checks);
     println!("{} passed, {} failed", checks.passed, checks.failed);

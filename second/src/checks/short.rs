@@ -2,7 +2,7 @@
 
 use super::examples::{DECK, P1, U1};
 use super::Checks;
-use crate::frames::{answer_all, put};
+use crate::frames::{self, answer_all, put};
 use crate::report::short;
 
 pub fn run(checks: &mut Checks) {
@@ -136,7 +136,9 @@ fn frames(checks: &mut Checks) {
     ] {
         let input = [&input, tail.as_bytes()].concat();
         let mut output = Vec::new();
-        let whole = answer_all(&mut &input[..], &mut output, "short", short);
+        let whole = answer_all(&mut &input[..], &mut output, frames::DECK, |deck| {
+            ("short", short(deck))
+        });
         checks.equal(
             name,
             (String::from_utf8_lossy(&output).as_ref(), whole.ok()),

@@ -1,6 +1,7 @@
 //! Decks from a seed: the kinds and how often each comes.
 
 pub mod damage;
+pub mod files;
 pub mod hours;
 pub mod labels;
 pub mod limits;
@@ -82,16 +83,21 @@ const KINDS: &[(u64, Maker)] = &[
 
 /// The deck of a number, from 0; it depends on nothing else but the seed.
 pub fn deck(seed: u64, index: u64) -> Made {
-    let cycle: u64 = KINDS.iter().map(|&(weight, _)| weight).sum();
+    in_turn(KINDS, seed, index)
+}
+
+/// What is made by the kind whose turn in the cycle a number is.
+fn in_turn<T>(kinds: &[(u64, fn(&mut Draw) -> T)], seed: u64, index: u64) -> T {
+    let cycle: u64 = kinds.iter().map(|&(weight, _)| weight).sum();
     let mut place = index % cycle;
-    for &(weight, maker) in KINDS {
-        if place < weight {
-            let turn = index / cycle * weight + place;
-            return maker(&mut Draw::new(seed, index, turn));
-        }
-        place -= weight;
+    let mut at = 0;
+    while place >= kinds[at].0 {
+        place -= kinds[at].0;
+        at += 1;
     }
-    Made::plain(Vec::new())
+    let (weight, maker) = kinds[at];
+    let turn = index / cycle * weight + place;
+    maker(&mut Draw::new(seed, index, turn))
 }
 
 /// Small hours of every kind, for finding the shortest deck that tells a fault.
