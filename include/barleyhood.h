@@ -23,9 +23,10 @@ extern "C" {
 #define BARLEYHOOD_NUMBER(answer) ((uint32_t)((uint64_t)(answer) >> 32))
 #define BARLEYHOOD_PLACE(answer) ((uint32_t)(answer))
 
-/* The numbers of the refusals, with the place of each: 0, a line of the deck, or a group by its internal number. barleyhood_check
+/* The numbers of the refusals, with the place of each: 0, a line of the deck, a group by its internal number, or a record of a file. barleyhood_check
    tells 1 to 11, and so does every call that reads the deck but barleyhood_report and the two for one label; barleyhood_labels goes
-   on with 14, the reconstructions with 14, then 12 or 13. 15 is of hour records, which no call here takes. */
+   on with 14, the reconstructions with 14, then 12 or 13. 15 is of hour records, which no call here takes, 16 of spreadsheet
+   files, which none reads yet. */
 enum {
     BARLEYHOOD_TOO_LONG = 1,     /* the deck has more than 8,192 bytes: 0 */
     BARLEYHOOD_FORM = 2,         /* a line is not of its form or out of order, or LF or E is missing: line */
@@ -41,7 +42,8 @@ enum {
     BARLEYHOOD_NO_ROOM = 12,     /* the sources have too little room for a group: group */
     BARLEYHOOD_NO_HEADROOM = 13, /* too little headroom for a group's credit: group */
     BARLEYHOOD_SHORT = 14,       /* the lent buffer is too short (calls only): 0 */
-    BARLEYHOOD_NO_DECK = 15      /* the hour record is one that no deck gives (calls only): 0 */
+    BARLEYHOOD_NO_DECK = 15,     /* the hour record is one that no deck gives (calls only): 0 */
+    BARLEYHOOD_FILE_RECORD = 16  /* a record of a spreadsheet file is not of its form, missing or out of order (no call reads files yet): record */
 };
 
 /* 0 for a deck that is accepted. */

@@ -24,7 +24,7 @@ use Rattle.roundtrip.specs.DeckRoundTrip.{accepted-is-valid}
 use Rattle.roundtrip.specs.GivenHour.{accepted-given}
 use Rattle.laws.specs.Sums.{listTo-length}
 use Rattle.refusals.specs.Codes.{codeOf}
-use Rattle.print_report.specs.LabelsShort.{labels-short}
+use Rattle.hour_lines.specs.HourLabels.{hour-labels, label-short}
 use Rattle.print_report.specs.ReportFits.{report-fits}
 use Rattle.outcomes.specs.AccountsCloseOverTheCells.{accepted-whole}
 use Rattle.outcomes.specs.CodesTell.{deck-told, cells-told, number-least}
@@ -119,7 +119,7 @@ unfolding calls.sourcePart
 source-few s i = go (reading s) refl
   where
     go : (o : Outcome Hour) → reading s ≡ o → length (sourcePartOf o i) ≤ 32
-    go (accepted h) e = few _ i (h .nsources) (labels-short h (accepted-is-valid s h e) .sources i)
+    go (accepted h) e = few _ i (h .nsources) (λ l. label-short _ (hour-labels h (accepted-is-valid s h e) .sources i l))
     go (refused r) e = omega arith
 
 delivery-few : (s : List ℕ) (j : ℕ) → length (deliveryPart s j) ≤ 32
@@ -127,7 +127,7 @@ unfolding calls.deliveryPart
 delivery-few s j = go (reading s) refl
   where
     go : (o : Outcome Hour) → reading s ≡ o → length (deliveryPartOf o j) ≤ 32
-    go (accepted h) e = few _ j (h .ndeliveries) (labels-short h (accepted-is-valid s h e) .deliveries j)
+    go (accepted h) e = few _ j (h .ndeliveries) (λ l. label-short _ (hour-labels h (accepted-is-valid s h e) .deliveries j l))
     go (refused r) e = omega arith
 
 start-told : (start n code : ℕ) → n ≤ 32 → code ≡ start * 4_294_967_296 + n → (code / 4_294_967_296 ≡ start) × (code % 4_294_967_296 ≡ n)

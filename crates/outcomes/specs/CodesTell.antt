@@ -38,7 +38,7 @@ use Rattle.rules.specs.declared.InternalSequence.{InternalSequence}
 use Rattle.rules.specs.declared.Key.{Key}
 use Rattle.rules.specs.declared.Label.{Label}
 use Rattle.rules.specs.declared.Refusal.{Refusal}
-use Rattle.rules.specs.declared.Refusal.the-variants.{TooLong, Form, Range, Full, Used, Levels, Names, OtherBasis, Percents, Overdrawn, Unplaced, NoRoom, NoHeadroom, Short, NoDeck}
+use Rattle.rules.specs.declared.Refusal.the-variants.{TooLong, Form, Range, Full, Used, Levels, Names, OtherBasis, Percents, Overdrawn, Unplaced, NoRoom, NoHeadroom, Short, NoDeck, FileRecord}
 use Rattle.rules.specs.declared.Running.{Running}
 use Rattle.rules.specs.declared.Source.{Source}
 
@@ -230,6 +230,7 @@ number-least (NoRoom x) = omega arith
 number-least (NoHeadroom x) = omega arith
 number-least Short = omega arith
 number-least NoDeck = omega arith
+number-least (FileRecord n) = omega arith
 
 pub record Tells (r : Refusal) : Type 0 where
   pub number : codeOf r / 4_294_967_296 ≡ numberOf r

@@ -1,44 +1,35 @@
 -- The report's lines as what is written one after another.
 use mathlib.Core.Path.{_≡_, refl, ap, sym, _∙_}
 use mathlib.Core.List.{List, [], _∷_, _++_, append-assoc}
-use Prim.Native.Nat.{ℕ, _+_, _<_}
+use Prim.Native.Nat.{ℕ, _+_}
 use native.Mathlib.Omega.{arith}
 use lib.ListN.{length, getD, length-append}
 use lib.IntN.{ℤ, pos}
 use Rattle.rules.specs.Words.{text}
 use Rattle.rules.specs.Refusals.{numberOf, placeOf}
-use Rattle.rules.specs.Fields as fields
 use Rattle.rules.specs.Fields.{digits, escape, Chars}
 use Rattle.rules.specs.Report as report
 use Rattle.rules.specs.Report.{ReportLine, hour, pair, internal, end, refusal, signedText, labelText, _␣_, amountsText, reportText}
 use Rattle.rules.specs.declared.InternalSequence.{InternalSequence}
 use Rattle.rules.specs.declared.Refusal.{Refusal}
 use Rattle.write_fields.specs.Inked as inked
-use Rattle.write_fields.specs.Inked.{Text, Front, front-byte, front-list, front-then, upTo, upTo-same, upTo-first, front-upTo}
+use Rattle.write_fields.specs.Inked.{Text, Front, front-byte, front-list, front-then}
 use Rattle.write_fields.specs.Texts.{spacedText, front-spaced}
+use Rattle.write_amounts.specs.Amounts.{signedAfter, amountsAfter, amountsSize, front-amounts, amounts-first, amounts-size}
 
 -- a label's own bytes between quotes
 abbrev pub partText : List ℕ → Text
 partText w rest = 34 ∷ w ++ (34 ∷ rest)
 
--- a space and a signed number
+-- a signed number after a space, the one at an index of a list, and a list's
 abbrev pub signedSpaced : ℤ → Text
-signedSpaced z rest = 32 ∷ signedText z ++ rest
+signedSpaced z = signedAfter 32 z
 
--- the amount at an index of a list, after its space; and all of them
 abbrev pub amountAt : List ℤ → ℕ → Text
 amountAt zs i = signedSpaced (getD zs i (pos 0))
 
 abbrev pub spacedAmounts : List ℤ → Text
-spacedAmounts zs = upTo (amountAt zs) (length zs)
-
--- n amounts of 0
-abbrev pub zerosText : ℕ → Text
-zerosText n = upTo (λ i rest. 32 ∷ 48 ∷ rest) n
-
--- each amount is 0
-abbrev pub AllZero : List ℤ → Type 0
-AllZero zs = (k : ℕ) → k < length zs → getD zs k (pos 0) ≡ pos 0
+spacedAmounts zs = amountsAfter 32 zs
 
 -- what comes after a source's label: its quote, the amounts and LF
 abbrev pub tailText : List ℤ → Text
@@ -64,14 +55,8 @@ printed l rest = reportText l ++ (10 ∷ rest)
 pub front-part : (w : List ℕ) → Front (partText w)
 front-part w = front-then (front-list (34 ∷ w)) (front-byte 34)
 
-pub front-signed : (z : ℤ) → Front (signedSpaced z)
-front-signed z = front-list (32 ∷ signedText z)
-
-pub front-amounts : (zs : List ℤ) → Front (spacedAmounts zs)
-front-amounts zs = front-upTo (amountAt zs) (λ i. front-signed (getD zs i (pos 0))) (length zs)
-
 pub front-tail : (zs : List ℤ) → Front (tailText zs)
-front-tail zs = front-then (front-byte 34) (front-then (front-amounts zs) (front-byte 10))
+front-tail zs = front-then (front-byte 34) (front-then (front-amounts 32 zs) (front-byte 10))
 
 pub front-line : (head s : List ℕ) (zs : List ℤ) → Front (lineText head s zs)
 front-line head s zs = front-then (front-list head) (front-then (front-list s) (front-tail zs))
@@ -93,12 +78,7 @@ unfolding report.amountsText inked.upTo
 amounts-then [] rest = refl
 amounts-then (z ∷ zs) rest =
     ap (λ (w : List ℕ). 32 ∷ w) (append-assoc (signedText z) (amountsText zs) rest) ∙ ap (signedSpaced z) (amounts-then zs rest)
-    ∙ sym (upTo-first (amountAt (z ∷ zs)) (length zs) rest)
-
--- amounts of 0
-pub amounts-zero : (zs : List ℤ) → AllZero zs → (rest : List ℕ) → zerosText (length zs) rest ≡ spacedAmounts zs rest
-unfolding fields.digits fields.digitsIn
-amounts-zero zs zero = upTo-same (λ i rest. 32 ∷ 48 ∷ rest) (amountAt zs) (length zs) (λ i l rest. rw (zero i l))
+    ∙ sym (amounts-first 32 z zs rest)
 
 -- what comes after a space, said another way
 spaced-then : (x y z rest : List ℕ) → y ++ rest ≡ z → (x ␣ y) ++ rest ≡ x ++ (32 ∷ z)
@@ -111,12 +91,11 @@ label-last cs y z rest e =
 label-then : (cs : Chars) (y z rest : List ℕ) → y ++ rest ≡ z → (labelText cs ␣ y) ++ rest ≡ partText (escape cs) (32 ∷ z)
 label-then cs y z rest e = label-last cs (32 ∷ y) (32 ∷ z) rest (ap (λ (w : List ℕ). 32 ∷ w) e)
 
-pub hour-line : (g l d x : ℕ) (rest : List ℕ) → text "hour" ++ spacedText g (spacedText l (spacedText d (spacedText x (10 ∷ rest)))) ≡ printed (hour g l d x) rest
+pub hour-line : (zs : List ℤ) (rest : List ℕ) → text "hour" ++ spacedAmounts zs (10 ∷ rest) ≡ printed (hour zs) rest
 unfolding report.reportText
-hour-line g l d x rest =
-    sym (ap (λ (w : List ℕ). text "hour" ++ (32 ∷ w)) (spaced-then (digits g) _ _ (10 ∷ rest) (spaced-then (digits l) _ _ (10 ∷ rest) (spaced-then (digits d) (digits x) _ (10 ∷ rest) refl))))
+hour-line zs rest = sym (append-assoc (text "hour") (amountsText zs) (10 ∷ rest) ∙ ap (λ (w : List ℕ). text "hour" ++ w) (amounts-then zs (10 ∷ rest)))
 
-pub pair-line : (d : Chars) (n : InternalSequence) (s : Chars) (zs : List ℤ) (rest : List ℕ) → lineText (headText (escape d) n []) (escape s) zs rest ≡ printed (pair d n s zs) rest
+pub pair-line : (d : Chars) (n : InternalSequence) (s : Chars) (zs : List ℤ) (rest : List ℕ) → lineText (headText (escape d) n []) (escape s) zs rest ≡ printed (pair d (pos (n .0)) s zs) rest
 unfolding report.reportText
 pair-line d n s zs rest =
     let end : List ℕ = 10 ∷ rest in
@@ -146,15 +125,11 @@ refusal-of r n p e f rest = rw (e, f) (refusal-line (numberOf r) (placeOf r) res
 pub spaced-length : (v : ℕ) → length (spacedText v []) ≡ length (digits v) + 1
 spaced-length v = omega (arith, length-append (digits v) [])
 
-pub line-length : (head s : List ℕ) (zs : List ℤ) → length (lineText head s zs []) ≡ length head + length s + length (spacedAmounts zs []) + 2
-line-length head s zs = omega (arith, length-append head (s ++ tailText zs []), length-append s (tailText zs []), front-amounts zs .longer (10 ∷ []))
+pub line-length : (head s : List ℕ) (zs : List ℤ) → length (lineText head s zs []) ≡ length head + length s + amountsSize zs + 2
+line-length head s zs = omega (arith, length-append head (s ++ tailText zs []), length-append s (tailText zs []), front-amounts 32 zs .longer (10 ∷ []), amounts-size 32 zs)
 
-pub hour-length : (g l d x : ℕ) → length (printed (hour g l d x) []) ≡ length (spacedText g []) + length (spacedText l []) + length (spacedText d []) + length (spacedText x []) + 5
-hour-length g l d x =
-    let a = spacedText x (10 ∷ []) in
-    let b = spacedText d a in
-    let c = spacedText l b in
-    omega (arith, ap length (hour-line g l d x []), front-spaced g .longer c, front-spaced l .longer b, front-spaced d .longer a, front-spaced x .longer (10 ∷ []))
+pub hour-length : (zs : List ℤ) → length (printed (hour zs) []) ≡ amountsSize zs + 5
+hour-length zs = omega (arith, ap length (hour-line zs []), front-amounts 32 zs .longer (10 ∷ []), amounts-size 32 zs)
 
 pub refusal-length : (n p : ℕ) → length (printed (refusal n p) []) ≡ length (spacedText n []) + length (spacedText p []) + 8
 refusal-length n p =

@@ -1,6 +1,5 @@
 -- What a scan and a reconstruction tell of a deck's report, and what printing it comes to.
 use mathlib.Core.Path.{_≡_, refl, ap, sym, _∙_}
-use mathlib.Core.Bool.{true}
 use mathlib.Core.List.{List, [], _++_}
 use Prim.Native.Nat.{ℕ, _≤_, _<_}
 use native.Mathlib.Omega.{arith}
@@ -8,15 +7,13 @@ use lib.IntN.{ℤ}
 use lib.Dec.{ltb}
 use lib.ListN.{length, drop}
 use borrow.Author.Tests.{le-ltb, lt-ltb}
-use Rattle.rules.specs.Refusals.{Outcome, accepted, refused, refuse, andThen, numberOf, placeOf}
-use Rattle.rules.specs.Hour as hours
-use Rattle.rules.specs.Hour.{Progress, reconstructed, cellsOf, cellCount, answer}
+use Rattle.rules.specs.Refusals.{Outcome, accepted, refused, refuse, numberOf, placeOf}
+use Rattle.rules.specs.Hour.{reconstructed, answer}
 use Rattle.rules.specs.Reading.{reading}
 use Rattle.rules.specs.Report as reports
 use Rattle.rules.specs.Report.{refusal, report}
-use Rattle.rules.specs.Writing.{valid}
 use Rattle.rules.specs.Calls as calls
-use Rattle.rules.specs.Calls.{cellsFor, reporting, leaves}
+use Rattle.rules.specs.Calls.{reporting, leaves}
 use Rattle.rules.specs.declared.Hour.{Hour}
 use Rattle.rules.specs.declared.Key.{Key}
 use Rattle.rules.specs.declared.Refusal.{Refusal}
@@ -27,8 +24,10 @@ use Rattle.rules.specs.declared.Written.{Written}
 use Rattle.rules.specs.declared.Written.the-variants.{Count, Refused as NotWritten}
 use Rattle.deck.specs.Answers.{read-accepted, read-refused, Scanned}
 use Rattle.deck.specs.declared.ScannedDeck.{ScannedDeck}
-use Rattle.sequence.specs.Placings.{placings, placings-same}
+use Rattle.sequence.specs.Placings.{placings}
 use Rattle.print_lines.specs.Lines.{printed}
+use Rattle.roundtrip.specs.DeckRoundTrip.{accepted-is-valid}
+use Rattle.hour_lines.specs.HourRun.{Run, run-cells}
 use Rattle.print_report.specs.HourRows.{Answered}
 
 -- What was scanned.
@@ -39,43 +38,6 @@ module _ (deck : List ℕ) (x : ScannedDeck) (s : Scanned deck (reading deck) x)
 
   pub scanned-accepted : x .verdict ≡ Accepted → reading deck ≡ accepted (x .hour)
   scanned-accepted v = sym (read-accepted (reading deck) (record { verdict = x .verdict; hour = x .hour }) (s .answer) v)
-
--- What was reconstructed, of a valid hour into memory for its cells.
-
--- the run whose cells come first
-pub record Run (h : Hour) (cells : List ℤ) : Type 0 where
-  pub progress : Progress
-  pub run : reconstructed h ≡ accepted progress
-  pub after : List ℤ
-  pub is : cells ≡ cellsOf h progress ++ after
-
--- the answer of an hour, where its cells fit
-pub filled : (h : Hour) (out : List ℤ) → cellCount h ≤ length out → cellsFor h (length out) ≡ answer h
-unfolding calls.cellsFor
-filled h out l = rw (le-ltb (length out) (cellCount h) l)
-
-module _ (h : Hour) where
-  pub run-refused : (r : Refusal) → NotWritten r ≡ writtenOf (answer h) → reconstructed h ≡ refused r
-  unfolding hours.answer
-  run-refused r e = go (reconstructed h) e
-    where
-      go : (o : Outcome Progress) → NotWritten r ≡ writtenOf (andThen o λ p. accepted (cellsOf h p)) → o ≡ refused r
-      go (accepted p) e = let z : _≡_ {A = ℕ} 0 1 = cc in absurd (omega arith)
-      go (refused q) e = let z : q ≡ r = cc in ap refused z
-
-  pub run-done : (k : ℕ) (out left : List ℤ) → Count k ≡ writtenOf (answer h) → left ≡ leaves (answer h) out → Run h left
-  unfolding hours.answer
-  run-done k out left e f = go (reconstructed h) refl e f
-    where
-      go : (o : Outcome Progress) → reconstructed h ≡ o → Count k ≡ writtenOf (andThen o λ p. accepted (cellsOf h p)) → left ≡ leaves (andThen o λ p. accepted (cellsOf h p)) out → Run h left
-      go (accepted p) oe e f = record { progress = p; run = oe; after = drop (length (cellsOf h p)) out; is = f }
-      go (refused q) oe e f = let z : _≡_ {A = ℕ} 0 1 = cc in absurd (omega arith)
-
--- what an hour's reconstruction answered, and left in the cells that it was lent
-pub record Ended (h : Hour) (end : Written) (cells : List ℤ) : Type 0 where
-  pub before : List ℤ
-  pub outcome : end ≡ writtenOf (answer h)
-  pub left : cells ≡ leaves (answer h) before
 
 -- a deck that is accepted, and its hour's keys
 pub record ReadDeck (deck : List ℕ) (x : ScannedDeck) (ks : List Key) : Type 0 where
@@ -90,16 +52,7 @@ read-deck deck x ks s v n =
     record { read = e; scanned = rw e at s; numbered = n }
 
 pub run-answered : (deck : List ℕ) (x : ScannedDeck) (ks : List Key) (cells : List ℤ) → ReadDeck deck x ks → Run (x .hour) cells → Answered deck x ks cells
-run-answered deck x ks cells d r =
-    record {
-      read = d .read;
-      scanned = d .scanned;
-      progress = r .progress;
-      run = r .run;
-      after = r .after;
-      is = r .is;
-      numbered = λ j l. ap (λ (k : Key). k .number) (rw (d .numbered) (placings-same (x .hour) j));
-    }
+run-answered deck x ks cells d r = record { read = d .read; scanned = d .scanned; hour = run-cells (x .hour) ks cells (accepted-is-valid deck (x .hour) (d .read)) (d .numbered) r }
 
 -- The report of a refusal.
 

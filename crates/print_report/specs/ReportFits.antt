@@ -8,34 +8,32 @@ use lib.IntN.{ℤ, pos, negsuc, natAbs}
 use lib.ListN.{length, getD, length-append}
 use Rattle.rules.specs.Words.{text}
 use Rattle.rules.specs.Refusals.{Outcome, accepted, refused, numberOf, placeOf, andThen}
-use Rattle.rules.specs.Group.{noRunning, Item, OpenItem, openAmount}
+use Rattle.rules.specs.Group.{noRunning, OpenItem, openAmount}
 use Rattle.rules.specs.Fields as fields
 use Rattle.rules.specs.Fields.{digits, escape, Chars}
 use Rattle.rules.specs.Record.{chars, sourceAt, deliveryAt}
-use Rattle.rules.specs.Hour.{keys, keyAt, Progress, reconstructed, cellsOf}
+use Rattle.rules.specs.Hour.{keys, keyAt, Progress, reconstructed}
 use Rattle.rules.specs.Reading.{generated, delivered, reading}
 use Rattle.rules.specs.Writing.{valid}
 use Rattle.rules.specs.Report as reports
-use Rattle.rules.specs.Report.{hour, pair, internal, end, refusal, pairAmounts, openAmounts, pairLine, openLine, hourLines, linesOf, signedText, reportTexts, report}
+use Rattle.rules.specs.Report.{hour, pair, internal, end, refusal, hourAmounts, pairAmounts, openAmounts, pairLine, openLine, hourLines, linesOf, signedText, reportTexts, report}
 use Rattle.rules.specs.declared.Hour.{Hour}
 use Rattle.rules.specs.declared.InternalSequence.{InternalSequence}
 use Rattle.rules.specs.declared.Refusal.{Refusal}
 use Rattle.roundtrip.specs.DeckFits.{digits-most}
 use Rattle.roundtrip.specs.DeckRoundTrip.{accepted-is-valid}
 use Rattle.roundtrip.specs.GivenHour.{valid-given}
-use Rattle.balance.specs.Accounts.{itemPlace, openItemPlace}
-use Rattle.balance.specs.AnswerCells.{cellAt, pairPlace, openPlace, pair-cell, open-cell}
-use Rattle.balance.specs.CellsFit.{SmallCell}
 use Rattle.balance.specs.NumbersBelow1000.{numbers-below}
 use Rattle.balance.specs.ValidHour.{valid-sequences}
 use Rattle.write_fields.specs.Lengths.{digits-few}
 use Rattle.write_fields.specs.Inked as inked
 use Rattle.write_fields.specs.Inked.{Text, upTo}
-use Rattle.print_lines.specs.Lines.{amountAt, spacedAmounts, tailText, headText, lineText, printed, hour-line, pair-line, open-line, refusal-line}
-use Rattle.print_report.specs.LineAmounts.{SmallAmounts, pair-amounts-small, open-amounts-small}
-use Rattle.print_report.specs.HourReport.{pairsText, opensText, hour-lines}
-use Rattle.print_report.specs.LabelsShort.{labels-short}
-use Rattle.print_report.specs.HourRows.{small-cells}
+use Rattle.print_lines.specs.Lines.{signedSpaced, amountAt, spacedAmounts, tailText, headText, lineText, printed, hour-line, pair-line, open-line, refusal-line}
+use Rattle.hour_lines.specs.LineAmounts.{SmallAmounts}
+use Rattle.hour_lines.specs.LinesText.{pairsText, opensText, hour-lines}
+use Rattle.hour_lines.specs.HourLabels.{label-short, hour-labels}
+use Rattle.hour_lines.specs.HourCells.{pair-small, open-small}
+use Rattle.print_report.specs.HourRows.{printed-all}
 
 -- as many as no report passes
 abbrev pub mostReport : ℕ
@@ -78,7 +76,7 @@ line-short : (head s : List ℕ) (zs : List ℤ) → length s ≤ 32 → SmallAm
 line-short head s zs sl small rest = omega (arith, length-append head (s ++ tailText zs rest), length-append s (tailText zs rest), amounts-short zs small (10 ∷ rest))
 
 pair-short : (d : Chars) (n : InternalSequence) (s : Chars) (zs : List ℤ) → length (escape d) ≤ 32 → n .0 < 1000 → length (escape s) ≤ 32 → SmallAmounts zs
-    → (rest : List ℕ) → length (printed (pair d n s zs) rest) ≤ 74 + length zs * 17 + length rest
+    → (rest : List ℕ) → length (printed (pair d (pos (n .0)) s zs) rest) ≤ 74 + length zs * 17 + length rest
 pair-short d n s zs dl nl sl small rest =
     omega (
       arith,
@@ -92,23 +90,21 @@ pair-short d n s zs dl nl sl small rest =
 open-short : (s : Chars) (zs : List ℤ) → length (escape s) ≤ 32 → SmallAmounts zs → (rest : List ℕ) → length (printed (internal s zs) rest) ≤ 44 + length zs * 17 + length rest
 open-short s zs sl small rest = omega (arith, ap length (open-line s zs rest), line-short (text "internal \"") (escape s) zs sl small rest)
 
-hour-short : (g l d x : ℕ) (rest : List ℕ) → length (printed (hour g l d x) rest) ≤ 89 + length rest
-hour-short g l d x rest =
-    let a = digits x ++ (10 ∷ rest) in
-    let b = digits d ++ (32 ∷ a) in
-    let c = digits l ++ (32 ∷ b) in
-    omega (
-      arith,
-      ap length (hour-line g l d x rest),
-      length-append (digits g) (32 ∷ c),
-      length-append (digits l) (32 ∷ b),
-      length-append (digits d) (32 ∷ a),
-      length-append (digits x) (10 ∷ rest),
-      digits-few g,
-      digits-few l,
-      digits-few d,
-      digits-few x,
-    )
+hour-short : (g l d : ℕ) (rest : List ℕ) → length (printed (hour (hourAmounts g l d)) rest) ≤ 89 + length rest
+hour-short g l d rest = omega (arith, ap length (hour-line zs rest), upTo-short (amountAt zs) 21 4 each (10 ∷ rest))
+  where
+    zs : List ℤ
+    zs = hourAmounts g l d
+
+    one : (v : ℕ) (rest : List ℕ) → length (signedSpaced (pos v) rest) ≤ 21 + length rest
+    one v rest = omega (arith, length-append (digits v) rest, digits-few v)
+
+    each : (i : ℕ) → i < 4 → (rest : List ℕ) → length (amountAt zs i rest) ≤ 21 + length rest
+    each zero m = one g
+    each (suc zero) m = one l
+    each (suc (suc zero)) m = one d
+    each (suc (suc (suc zero))) m = one (g - (l + d))
+    each (suc (suc (suc (suc i)))) m = absurd (omega arith)
 
 refusal-short : (n p : ℕ) (rest : List ℕ) → length (printed (refusal n p) rest) ≤ 50 + length rest
 refusal-short n p rest =
@@ -118,40 +114,32 @@ refusal-short n p rest =
 -- The hour.
 
 module _ (h : Hour) (p : Progress) (v : valid h ≡ true) (run : reconstructed h ≡ accepted p) where
-  small-at : (k : ℕ) (z : ℤ) → cellAt (cellsOf h p) k ≡ z → SmallCell z
-  small-at k z e = rw e at (small-cells h p v run k)
-
-  pair-small : (j i : ℕ) → j < h .ndeliveries → i < h .nsources → (item : Item) → SmallCell (p .cells j i item)
-  pair-small j i l m item = small-at (pairPlace h j i (itemPlace item)) _ (pair-cell h p j i item l m)
-
-  open-small : (i : ℕ) → i < h .nsources → (item : OpenItem) → SmallCell (pos (openAmount item (getD (p .states) i noRunning)))
-  open-small i m item = small-at (openPlace h i (openItemPlace item)) _ (open-cell h p i item m)
-
   pair-line-short : (j : ℕ) → j < h .ndeliveries → (i : ℕ) → i < h .nsources → (rest : List ℕ) → length (printed (pairLine h p j i) rest) ≤ mostPair + length rest
   pair-line-short j l i m rest =
       pair-short (chars (deliveryAt h j .label)) (keyAt (keys h) j .number) (chars (sourceAt h i .label)) (pairAmounts (p .cells j i))
-      (labels-short h v .deliveries j l) (numbers-below h (valid-sequences h v) j) (labels-short h v .sources i m) (pair-amounts-small (p .cells j i) (pair-small j i l m)) rest
+      (label-short _ (hour-labels h v .deliveries j l)) (numbers-below h (valid-sequences h v) j) (label-short _ (hour-labels h v .sources i m)) (pair-small h p v run j i l m) rest
 
   open-line-short : (i : ℕ) → i < h .nsources → (rest : List ℕ) → length (printed (openLine h p i) rest) ≤ mostOpen + length rest
   open-line-short i m rest =
       let cell : OpenItem → ℤ = λ item. pos (openAmount item (getD (p .states) i noRunning)) in
-      open-short (chars (sourceAt h i .label)) (openAmounts cell) (labels-short h v .sources i m) (open-amounts-small cell (open-small i m)) rest
+      open-short (chars (sourceAt h i .label)) (openAmounts cell) (label-short _ (hour-labels h v .sources i m)) (open-small h p v run i m) rest
 
-  row-short : (j : ℕ) → j < h .ndeliveries → (rest : List ℕ) → length (pairsText h p j rest) ≤ 32 * mostPair + length rest
+  row-short : (j : ℕ) → j < h .ndeliveries → (rest : List ℕ) → length (pairsText printed h p j rest) ≤ 32 * mostPair + length rest
   row-short j l rest = omega (arith, upTo-short (λ i. printed (pairLine h p j i)) mostPair (h .nsources) (pair-line-short j l) rest, valid-given h v .sources .few)
 
   hour-at-most : length (reportTexts (hourLines h p)) ≤ mostReport
   unfolding reports.reportText
   hour-at-most =
       let last = printed end [] in
-      let opens = opensText h p last in
-      let rows = upTo (pairsText h p) (h .ndeliveries) opens in
+      let opens = opensText printed h p last in
+      let rows = upTo (pairsText printed h p) (h .ndeliveries) opens in
       let given = valid-given h v in
       omega (
         arith,
-        ap length (hour-lines h p),
-        hour-short (generated h) (h .losses) (delivered h) (generated h - (h .losses + delivered h)) rows,
-        upTo-short (pairsText h p) (32 * mostPair) (h .ndeliveries) row-short opens,
+        ap length (hour-lines printed h p []),
+        ap length (printed-all (hourLines h p)),
+        hour-short (generated h) (h .losses) (delivered h) rows,
+        upTo-short (pairsText printed h p) (32 * mostPair) (h .ndeliveries) row-short opens,
         upTo-short (λ i. printed (openLine h p i)) mostOpen (h .nsources) open-line-short last,
         given .sources .few,
         given .deliveries .few,

@@ -2,7 +2,6 @@
 use mathlib.Core.Path.{_≡_, ap, _∙_}
 use mathlib.Core.List.{List, [], _∷_, _++_}
 use Prim.Native.Nat.{ℕ, _+_, _-_, _*_, _≤_, _<_}
-use native.Mathlib.Nat.{mul-le-mul-right}
 use native.Mathlib.Omega.{arith}
 use lib.ListN.{length, getD, take, drop, length-append}
 use lib.Seq.{take-append-seam}
@@ -18,7 +17,8 @@ use Rattle.deck.specs.declared.Place.{Place}
 use Rattle.write_fields.specs.Inked.{Text, Room, Inked, Front, inked-place, inked-first, upTo, front-upTo}
 use Rattle.write_fields.specs.Lengths.{digits-few}
 use Rattle.print_lines.specs.Lines.{headText, lineText, openText, front-line}
-use Rattle.print_report.specs.LineAmounts.{SmallFirst, pairFrom, openFrom}
+use Rattle.hour_lines.specs.LineAmounts.{SmallFirst, pairFrom, openFrom}
+use Rattle.hour_lines.specs.HourCells.{row-within}
 
 -- each place lies in the deck
 pub record Held (deck : List ℕ) (ps : List Place) : Type 0 where
@@ -66,10 +66,6 @@ front-opens deck sources cells base n = front-upTo (openAt deck sources cells ba
 -- a line of what is the same
 pub line-same : (head : List ℕ) {s t : List ℕ} {ys zs : List ℤ} → s ≡ t → ys ≡ zs → (rest : List ℕ) → lineText head s ys rest ≡ lineText head t zs rest
 line-same head a b rest = rw (a, b)
-
--- one row of the cells of m
-pub row-within : (j m w : ℕ) → j < m → j * w + w ≤ m * w
-row-within j m w h = let k : j + 1 ≤ m = omega arith in omega (arith, mul-le-mul-right w k)
 
 pub row-small : (cells : List ℤ) (j m w : ℕ) → j < m → SmallFirst cells (m * w) → SmallFirst cells (j * w + w)
 row-small cells j m w h s =

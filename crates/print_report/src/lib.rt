@@ -1,25 +1,24 @@
 // The report of a deck as text, line by line straight into a lent buffer: its length is found first where the buffer may be too short for it.
-// Contracts cite Room and Inked of write_fields, the rows of specs/Rows and their amounts in LineAmounts, and report, reporting and leaves of rules.
+// Contracts cite Room and Inked of write_fields, the rows of specs/Rows and their amounts in LineAmounts of hour_lines, and report, reporting and leaves of rules.
 ghost use mathlib.Core.Path.{_≡_};
 ghost use mathlib.Core.Bool.{true};
 ghost use mathlib.Core.List.{[], _++_};
 ghost use Prim.Native.Nat.{_+_, _*_, _^_, _≤_, _<_};
-ghost use lib.IntN.{_+ℤ_};
 ghost use lib.ListN.{length, drop};
 ghost use Rattle.rules.specs.Answers.{writtenOf};
 ghost use Rattle.rules.specs.Refusals.{numberOf, placeOf};
 ghost use Rattle.rules.specs.Hour.{pairWidth, openWidth, cellCount, answer};
-ghost use Rattle.rules.specs.Report.{pairAmounts, openAmounts, refusal, report};
+ghost use Rattle.rules.specs.Report.{refusal, report};
 ghost use Rattle.rules.specs.Writing.{valid};
 ghost use Rattle.rules.specs.Calls.{reporting, leaves};
-ghost use Rattle.balance.specs.CellsFit.{SmallCell};
 ghost use Rattle.sequence.specs.Placings.{placings};
 ghost use Rattle.write_fields.specs.Inked.{Room, Inked, upTo};
 ghost use Rattle.print_lines.specs.Lines.{printed};
-ghost use Rattle.print_report.specs.LineAmounts.{SmallFirst, pairFrom, openFrom};
+ghost use Rattle.hour_lines.specs.LineAmounts.{SmallFirst};
 ghost use Rattle.print_report.specs.Rows.{Held, ShortLabels, rowText, rowAt, openAt};
 ghost use Rattle.print_report.specs.HourRows.{Answered};
-ghost use Rattle.print_report.specs.Printing.{ReadDeck, Ended, handed};
+ghost use Rattle.print_report.specs.Printing.{ReadDeck, handed};
+ghost use Rattle.hour_lines.specs.HourRun.{Ended};
 use deck::Place;
 use deck::ScannedDeck;
 use moves::PAIR_CELLS;
@@ -29,11 +28,6 @@ use rules::Key;
 use rules::Refusal;
 use rules::Verdict;
 use rules::Written;
-
-// How many amounts a pair's line prints, and an open one.
-const PAIR_AMOUNTS: usize = 3;
-
-const OPEN_AMOUNTS: usize = OPEN_CELLS;
 
 // As many cells as an hour has at most, and as many as a small one may have.
 const MOST_CELLS: usize = 32 * (32 * PAIR_CELLS) + 32 * OPEN_CELLS;
@@ -45,35 +39,6 @@ const MOST_HEAD: usize = 64;
 
 // No report is longer.
 const MOST_REPORT: usize = 131072;
-
-// A pair's costs in one sum.
-fn both_costs(direct: i64, incremental: i64) -> i64
-    requires { ⌜ SmallCell direct × SmallCell incremental ⌝ }
-    ensures { λ r. ⌜ r ≡ direct +ℤ incremental ⌝ }
-{
-    direct + incremental
-}
-
-// What a pair's line prints of the pair's cells, which stand from a place on.
-fn pair_amounts_at(cells: &[i64], k: usize) -> [i64; PAIR_AMOUNTS]
-    requires { ⌜ SmallFirst (now cells) (k + pairWidth) ⌝ }
-    ensures { λ r. ⌜ r ≡ pairAmounts (pairFrom (now (cells .entry)) k) ⌝ }
-{
-    let direct = cells[k];
-    let incremental = cells[k + 1];
-    let cost = both_costs(cells[k + 2], cells[k + 3]);
-    [direct, incremental, cost]
-}
-
-// What an open line prints of the source's.
-fn open_amounts_at(cells: &[i64], k: usize) -> [i64; OPEN_AMOUNTS]
-    requires { ⌜ SmallFirst (now cells) (k + openWidth) ⌝ }
-    ensures { λ r. ⌜ r ≡ openAmounts (openFrom (now (cells .entry)) k) ⌝ }
-{
-    let mwh = cells[k];
-    let cost = cells[k + 1];
-    [mwh, cost]
-}
 
 // A delivery with each source: the sources' labels at their places in the deck, the pairs' cells from a place on.
 fn put_row(
@@ -94,7 +59,7 @@ fn put_row(
     while i < n {
         let place = sources[i];
         let source = deck::part_at(deck, place);
-        let amounts = pair_amounts_at(cells, base + i * PAIR_CELLS);
+        let amounts = hour_lines::pair_amounts_at(cells, base + i * PAIR_CELLS);
         p = print_lines::put_line(buf, p, head, source, &amounts);
         i += 1;
     }
@@ -157,7 +122,7 @@ fn put_opens(
     while i < n {
         let place = sources[i];
         let source = deck::part_at(deck, place);
-        let amounts = open_amounts_at(cells, base + i * OPEN_CELLS);
+        let amounts = hour_lines::open_amounts_at(cells, base + i * OPEN_CELLS);
         p = print_lines::put_open(buf, p, source, &amounts);
         i += 1;
     }
@@ -177,7 +142,8 @@ fn put_hour(buf: &mut [u8], deck: &[u8], x: ScannedDeck, keys: [Key; 32], cells:
     let m = h.ndeliveries;
     let generation = line_rules::sum_generated(h);
     let delivered = line_rules::sum_delivered(h);
-    let p = print_lines::put_header(buf, 0, generation, h.losses as u64, delivered);
+    let amounts = hour_lines::hour_amounts(generation, h.losses as u64, delivered);
+    let p = print_lines::put_header(buf, 0, &amounts);
     let q = put_rows(buf, p, deck, sources, n, deliveries, m, keys, cells);
     let r = put_opens(buf, q, deck, sources, n, cells, m * (n * PAIR_CELLS));
     print_lines::put_end(buf, r)
@@ -201,7 +167,7 @@ fn row_length(
     while i < n {
         let place = sources[i];
         let source = deck::part_at(deck, place);
-        let amounts = pair_amounts_at(cells, base + i * PAIR_CELLS);
+        let amounts = hour_lines::pair_amounts_at(cells, base + i * PAIR_CELLS);
         size += print_lines::line_length(head, source, &amounts);
         i += 1;
     }
@@ -243,7 +209,7 @@ fn opens_length(deck: &[u8], sources: [Place; 32], n: usize, cells: &[i64], base
     while i < n {
         let place = sources[i];
         let source = deck::part_at(deck, place);
-        let amounts = open_amounts_at(cells, base + i * OPEN_CELLS);
+        let amounts = hour_lines::open_amounts_at(cells, base + i * OPEN_CELLS);
         size += print_lines::open_length(source, &amounts);
         i += 1;
     }
@@ -261,7 +227,8 @@ fn hour_length(deck: &[u8], x: ScannedDeck, keys: [Key; 32], cells: &[i64]) -> u
     let m = h.ndeliveries;
     let generation = line_rules::sum_generated(h);
     let delivered = line_rules::sum_delivered(h);
-    let header = print_lines::header_length(generation, h.losses as u64, delivered);
+    let amounts = hour_lines::hour_amounts(generation, h.losses as u64, delivered);
+    let header = print_lines::header_length(&amounts);
     let rows = rows_length(deck, sources, n, deliveries, m, keys, cells);
     let opens = opens_length(deck, sources, n, cells, m * (n * PAIR_CELLS));
     header + rows + opens + print_lines::end_length()

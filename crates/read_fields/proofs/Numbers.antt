@@ -36,7 +36,7 @@ module _ (s : List ℕ) (at : ℕ) where
   digit-inside d = omega (arith, digit-from (byte s at) d .0)
 
   module _ (v : ℕ) where
-    run-stop : isDigit (byte s at) ≡ false → run v at (drop at s) ≡ got v at
+    pub run-stop : isDigit (byte s at) ≡ false → run v at (drop at s) ≡ got v at
     unfolding fields.run
     run-stop d = go (drop at s) refl
       where
@@ -44,7 +44,7 @@ module _ (s : List ℕ) (at : ℕ) where
         go [] e = refl
         go (b ∷ t) e = rw (sym (ap isDigit (getD-first s (b ∷ t) at 0 e)) ∙ d)
 
-    run-more : isDigit (byte s at) ≡ true → run v at (drop at s) ≡ run (v * 10 + (byte s at - 48)) (at + 1) (drop (at + 1) s)
+    pub run-more : isDigit (byte s at) ≡ true → run v at (drop at s) ≡ run (v * 10 + (byte s at - 48)) (at + 1) (drop (at + 1) s)
     unfolding fields.run
     run-more d = rw (drop-byte s at (digit-inside d), d, add-one at)
 

@@ -43,8 +43,8 @@ pub enum LabelField {
 // Above every range.
 const CUT: u32 = 1_000_000;
 
-// internal: the byte at a place; past the end a 0
-fn peek(s: &[u8], at: usize) -> u8
+// The byte at a place; past the end a 0.
+pub fn peek(s: &[u8], at: usize) -> u8
     ensures { λ r. ⌜ r ≡ getD (now (s .entry)) at 0 ⌝ }
 {
     if s.len() <= at {
@@ -69,7 +69,7 @@ pub fn byte(s: &[u8], at: usize, b: u8) -> Step
 
 // Numbers.
 
-fn is_digit(b: u8) -> bool
+pub fn is_digit(b: u8) -> bool
     ensures { λ r. ⌜ r ≡ isDigit b ⌝ }
 {
     if b < b'0' {

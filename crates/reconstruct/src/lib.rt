@@ -25,7 +25,7 @@ ghost use Rattle.reconstruct.specs.CellsWritten.{AmountsFit, AmountsPut,
 // A source's open cells.
 pub const OPEN_CELLS: usize = 2;
 
-fn cell(x: u64) -> i64
+pub fn cell(x: u64) -> i64
     requires { ⌜ x ≤ 100_000_000_000_000 ⌝ }
     ensures { λ r. ⌜ r ≡ pos x ⌝ }
 {

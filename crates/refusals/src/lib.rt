@@ -26,6 +26,7 @@ pub fn number_of(r: Refusal) -> u64
         Refusal::NoHeadroom(x) => 13,
         Refusal::Short => 14,
         Refusal::NoDeck => 15,
+        Refusal::FileRecord(n) => 16,
     }
 }
 
@@ -55,6 +56,7 @@ pub fn place_of(r: Refusal) -> usize
         Refusal::NoHeadroom(x) => wide(x.0),
         Refusal::Short => 0,
         Refusal::NoDeck => 0,
+        Refusal::FileRecord(n) => n,
     }
 }
 

@@ -1,4 +1,4 @@
--- Document 01, "Numbers a call may give back": what the calls on an hour record come to, and what they leave in lent memory.
+-- Document 01, "Numbers a call may give back", and document 02, item 1: what the calls come to, and what they leave in lent memory.
 use mathlib.Core.Bool.{not}
 use mathlib.Core.List.{List, [], _++_}
 use Prim.Native.Nat.{ℕ}
@@ -6,12 +6,13 @@ use lib.Dec.{ltb}
 use lib.ListN.{length, drop}
 use lib.IntN.{ℤ}
 use Rattle.rules.specs.Words.{if_then_else_}
-use Rattle.rules.specs.Refusals.{Outcome, accepted, refused, refuse}
+use Rattle.rules.specs.Refusals.{Outcome, accepted, refused, refuse, andThen}
 use Rattle.rules.specs.Fields.{escape}
-use Rattle.rules.specs.Hour.{cellCount, answer}
+use Rattle.rules.specs.Hour.{cellCount, reconstructed, answer}
 use Rattle.rules.specs.Record.{chars, sourceAt, deliveryAt}
 use Rattle.rules.specs.Reading.{reading}
-use Rattle.rules.specs.Report.{report}
+use Rattle.rules.specs.Report.{hourLines, reportTexts, report}
+use Rattle.rules.specs.Spreadsheet.{fileText, fileLines}
 use Rattle.rules.specs.Writing.{deckText, valid}
 use Rattle.rules.specs.declared.Hour.{Hour}
 use Rattle.rules.specs.declared.Refusal.the-variants.{Short, NoDeck}
@@ -35,11 +36,33 @@ reconstruction h size =
     refuse (not (valid h)) NoDeck
     (cellsFor h size)
 
--- the report of a deck, into a buffer of so many bytes
+-- bytes into a buffer of so many
+abbrev pub into : ℕ → List ℕ → Outcome (List ℕ)
+into size bytes =
+    refuse (ltb size (length bytes)) Short
+    (accepted bytes)
+
+-- the report of a deck
 unfoldable pub reporting : List ℕ → ℕ → Outcome (List ℕ)
-reporting s size =
-    refuse (ltb size (length (report s))) Short
-    (accepted (report s))
+reporting s size = into size (report s)
+
+-- Document 02, item 1, the spreadsheet file: of an hour that a deck gives, 12 or 13, then "14 for a short buffer"
+unfoldable pub fileFor : Hour → ℕ → Outcome (List ℕ)
+fileFor h size = andThen (reconstructed h) λ p. into size (fileText (hourLines h p))
+
+-- of an hour record: "after 15"
+unfoldable pub spreadsheet : Hour → ℕ → Outcome (List ℕ)
+spreadsheet h size =
+    refuse (not (valid h)) NoDeck
+    (fileFor h size)
+
+-- of a deck
+unfoldable pub deckSpreadsheet : List ℕ → ℕ → Outcome (List ℕ)
+deckSpreadsheet s size = andThen (reading s) λ h. fileFor h size
+
+-- a file's lines as the report prints them: 16, then 14
+unfoldable pub spreadsheetLines : List ℕ → ℕ → Outcome (List ℕ)
+spreadsheetLines s size = andThen (fileLines s) λ ls. into size (reportTexts ls)
 
 -- "A refused call changes no lent byte or number. An accepted one changes just the cells of the hour's pairs and open lines,
 -- or the deck's bytes; the rest stays."

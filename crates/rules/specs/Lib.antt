@@ -14,4 +14,6 @@ pub mod Writing
 pub mod Calls
 pub mod Places
 pub mod Report
+pub mod Spreadsheet
 pub mod Table
+pub mod FileTable

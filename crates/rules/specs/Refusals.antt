@@ -1,8 +1,8 @@
--- Document 01, "Numbers a call may give back": each refusal's number and place, and what a call comes to.
+-- Document 01, "Numbers a call may give back", and document 02, item 1: each refusal's number and place, and what a call comes to.
 use mathlib.Core.Bool.{Bool, true, false}
 use Prim.Native.Nat.{ℕ}
 use Rattle.rules.specs.declared.Refusal.{Refusal}
-use Rattle.rules.specs.declared.Refusal.the-variants.{TooLong, Form, Range, Full, Used, Levels, Names, OtherBasis, Percents, Overdrawn, Unplaced, NoRoom, NoHeadroom, Short, NoDeck}
+use Rattle.rules.specs.declared.Refusal.the-variants.{TooLong, Form, Range, Full, Used, Levels, Names, OtherBasis, Percents, Overdrawn, Unplaced, NoRoom, NoHeadroom, Short, NoDeck, FileRecord}
 
 -- "no."
 abbrev pub numberOf : Refusal → ℕ
@@ -21,8 +21,9 @@ numberOf (NoRoom x) = 12
 numberOf (NoHeadroom x) = 13
 numberOf Short = 14
 numberOf NoDeck = 15
+numberOf (FileRecord n) = 16
 
--- "place": 0, a line, or an internal number
+-- "place": 0, a line, an internal number, or a record of a file
 abbrev pub placeOf : Refusal → ℕ
 placeOf TooLong = 0
 placeOf (Form line) = line
@@ -39,6 +40,7 @@ placeOf (NoRoom x) = x .0
 placeOf (NoHeadroom x) = x .0
 placeOf Short = 0
 placeOf NoDeck = 0
+placeOf (FileRecord n) = n
 
 -- what a call comes to
 pub data Outcome (A : Type 0) : Type 0 where

@@ -11,18 +11,20 @@ use Rattle.rules.specs.Fields.{digits, escape, Chars}
 use Rattle.rules.specs.Record.{chars, sourceAt, deliveryAt}
 use Rattle.rules.specs.Reading.{generated, delivered, reading}
 use Rattle.rules.specs.declared.Hour.{Hour}
-use Rattle.rules.specs.declared.InternalSequence.{InternalSequence}
 
 pub data ReportLine : Type 0 where
-  hour : (generation losses deliveries load : ℕ) → ReportLine
-  pair : (delivery : Chars) (number : InternalSequence) (source : Chars) (amounts : List ℤ) → ReportLine
+  hour : (amounts : List ℤ) → ReportLine
+  pair : (delivery : Chars) (number : ℤ) (source : Chars) (amounts : List ℤ) → ReportLine
   internal : (source : Chars) (amounts : List ℤ) → ReportLine
   end : ReportLine
   refusal : (number place : ℕ) → ReportLine
 
 -- "Header: generation, losses, deliveries, internal load."
+abbrev pub hourAmounts : (generation losses deliveries : ℕ) → List ℤ
+hourAmounts g l d = pos g ∷ pos l ∷ pos d ∷ pos (g - (l + d)) ∷ []
+
 abbrev pub headerLine : Hour → ReportLine
-headerLine h = hour (generated h) (h .losses) (delivered h) (generated h - (h .losses + delivered h))
+headerLine h = hour (hourAmounts (generated h) (h .losses) (delivered h))
 
 -- "direct MWh, incremental MWh, both costs in one sum": what a pair's cells, item by item, are printed as
 abbrev pub pairAmounts : (Item → ℤ) → List ℤ
@@ -35,7 +37,7 @@ openAmounts cell = map cell openItems
 -- "Then each delivery with each source, deck order: label as in the deck, internal number, source, .."
 abbrev pub pairLine : Hour → Progress → ℕ → ℕ → ReportLine
 pairLine h p j i =
-    pair (chars (deliveryAt h j .label)) (keyAt (keys h) j .number) (chars (sourceAt h i .label)) (pairAmounts (p .cells j i))
+    pair (chars (deliveryAt h j .label)) (pos (keyAt (keys h) j .number .0)) (chars (sourceAt h i .label)) (pairAmounts (p .cells j i))
 
 -- "Then open MWh and cost of each source."
 abbrev pub openLine : Hour → Progress → ℕ → ReportLine
@@ -76,8 +78,8 @@ amountsText [] = []
 amountsText (z ∷ zs) = 32 ∷ signedText z ++ amountsText zs
 
 unfoldable pub reportText : ReportLine → List ℕ
-reportText (hour generation losses deliveries load) = text "hour" ␣ digits generation ␣ digits losses ␣ digits deliveries ␣ digits load
-reportText (pair delivery number source amounts) = labelText delivery ␣ digits (number .0) ␣ labelText source ++ amountsText amounts
+reportText (hour amounts) = text "hour" ++ amountsText amounts
+reportText (pair delivery number source amounts) = labelText delivery ␣ signedText number ␣ labelText source ++ amountsText amounts
 reportText (internal source amounts) = text "internal" ␣ labelText source ++ amountsText amounts
 reportText end = text "end"
 reportText (refusal number place) = text "refused" ␣ digits number ␣ digits place

@@ -218,7 +218,7 @@ impl Running {
     }
 }
 
-// Why a call refuses, 1 to 15 in their order, with the line or the internal number that it names.
+// Why a call refuses, 1 to 16 in their order, with the line, the internal number or the record that it names.
 pub enum Refusal {
     TooLong,
     Form(usize),
@@ -235,6 +235,7 @@ pub enum Refusal {
     NoHeadroom(InternalSequence),
     Short,
     NoDeck,
+    FileRecord(usize),
 }
 
 // Answers. Each that can refuse carries the refusal.

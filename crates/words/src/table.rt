@@ -24,7 +24,8 @@ sequence 0, and no delivery to place it by
 the sources have too little room for a group
 too little headroom for a group's credit
 the lent buffer is too short (calls only)
-the hour record is one that no deck gives (calls only)",
+the hour record is one that no deck gives (calls only)
+a record of a spreadsheet file is not of its form, missing or out of order (no call reads files yet)",
         said(number),
     )
 }
@@ -49,7 +50,8 @@ give one delivery a number
 the group's deliveries are more than can be unloaded; check them and the D lines
 the group's D lines take more than it is due; check them
 lend 4,160 cells, 131,072 bytes for a report, or 64 numbers for labels
-make records by reading decks",
+make records by reading decks
+have the file written anew",
         said(number),
     )
 }

@@ -216,7 +216,7 @@ fn put_character(buf: &mut [u8], at: usize, c: u8) -> usize
 }
 
 // How many characters a label has.
-fn characters(l: Label) -> usize
+pub fn characters(l: Label) -> usize
     ensures { λ r. ⌜ (r ≡ length (chars l)) × (r ≤ 16) ⌝ }
 {
     let n = l.len as usize;

@@ -1,7 +1,7 @@
 -- `print_lines::put_tail` meets its contract. The quote, the amounts and LF.
 use borrow.Author.Needs.{needs}
 use Rattle.write_fields.specs.Inked.{inked-then, room-first, room-after, front-byte}
-use Rattle.print_lines.specs.Lines.{front-amounts}
+use Rattle.write_amounts.specs.Amounts.{front-amounts}
 use Rattle.print_lines.proofs.put_tail.Statement.{statement}
 use Rattle.print_lines.proofs.put_tail.Tie as tie
 
@@ -14,7 +14,7 @@ put-amounts-requires : tie.Need-put-amounts-requires
 put-amounts-requires c κs =
     let quote = c .before .before .before in
     let s = quote .before .before .before in
-    room-first (front-amounts (s .args .amounts .now)) (room-after (quote .put-byte .ensures) (s .pre))
+    room-first (front-amounts 32 (s .args .amounts .now)) (room-after (quote .put-byte .ensures) (s .pre))
 
 put-byte-requires-2 : tie.Need-put-byte-requires-2
 put-byte-requires-2 c κs =

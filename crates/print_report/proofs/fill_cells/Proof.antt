@@ -3,7 +3,7 @@ use borrow.Author.Needs.{needs}
 use mathlib.Core.Path.{ap, _∙_}
 use Rattle.rules.specs.Answers.{writtenOf}
 use Rattle.rules.specs.Calls.{leaves}
-use Rattle.print_report.specs.Printing.{filled}
+use Rattle.hour_lines.specs.HourRun.{filled}
 use Rattle.print_report.proofs.fill_cells.Statement.{statement}
 use Rattle.print_report.proofs.fill_cells.Tie as tie
 

@@ -7,7 +7,8 @@ use Rattle.rules.specs.Refusals.{numberOf, placeOf}
 use Rattle.rules.specs.Report.{refusal}
 use Rattle.print_lines.specs.Lines.{printed}
 use Rattle.print_report.specs.ReportFits.{report-fits}
-use Rattle.print_report.specs.Printing.{run-refused, run-done, run-answered, unmet-report, told-as, report-whole}
+use Rattle.hour_lines.specs.HourRun.{run-refused, run-done}
+use Rattle.print_report.specs.Printing.{run-answered, unmet-report, told-as, report-whole}
 use Rattle.print_report.proofs.print_answer.Statement.{statement}
 use Rattle.print_report.proofs.print_answer.Tie as tie
 

@@ -1,4 +1,4 @@
--- A number is at most 15.
+-- A number is at most 16.
 use native.Mathlib.Omega.{arith}
 use borrow.Author.Needs.{needs}
 use Rattle.refusals.specs.Codes.{number-most}

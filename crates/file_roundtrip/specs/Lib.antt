@@ -1,0 +1,6 @@
+pub mod Standing
+pub mod SignedNumbers
+pub mod QuotedLabels
+pub mod Records
+pub mod RecordsInTurn
+pub mod FileRoundTrip

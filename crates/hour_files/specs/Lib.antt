@@ -1,0 +1,2 @@
+pub mod HourLinesFit
+pub mod HourFiles

@@ -1,0 +1,5 @@
+pub mod LineAmounts
+pub mod LinesText
+pub mod HourLabels
+pub mod HourCells
+pub mod HourRun

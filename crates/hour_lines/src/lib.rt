@@ -1,0 +1,60 @@
+// The amounts of a report's lines: the header's of an hour's sums, a pair's and a source's of its cells.
+// The contracts cite rules' Report, and LineAmounts for the cells from a place on.
+ghost use mathlib.Core.Path.{_≡_};
+ghost use Prim.Native.Nat.{_+_, _≤_};
+ghost use lib.IntN.{_+ℤ_};
+ghost use Rattle.rules.specs.Hour.{pairWidth, openWidth};
+ghost use Rattle.rules.specs.Report.{hourAmounts, pairAmounts, openAmounts};
+ghost use Rattle.balance.specs.CellsFit.{SmallCell};
+ghost use Rattle.hour_lines.specs.LineAmounts.{SmallFirst, pairFrom, openFrom};
+use reconstruct::OPEN_CELLS;
+
+// How many amounts each line has.
+pub const HOUR_AMOUNTS: usize = 4;
+
+pub const PAIR_AMOUNTS: usize = 3;
+
+pub const OPEN_AMOUNTS: usize = OPEN_CELLS;
+
+// The header's: the internal load is what is left of the generation.
+pub fn hour_amounts(generation: u64, losses: u64, deliveries: u64) -> [i64; HOUR_AMOUNTS]
+    requires { ⌜ (losses + deliveries ≤ generation) × (generation ≤ 100_000_000_000_000) ⌝ }
+    ensures { λ r. ⌜ r ≡ hourAmounts generation losses deliveries ⌝ }
+{
+    let load = generation - (losses + deliveries);
+    [
+        reconstruct::cell(generation),
+        reconstruct::cell(losses),
+        reconstruct::cell(deliveries),
+        reconstruct::cell(load),
+    ]
+}
+
+// A pair's costs in one sum.
+fn both_costs(direct: i64, incremental: i64) -> i64
+    requires { ⌜ SmallCell direct × SmallCell incremental ⌝ }
+    ensures { λ r. ⌜ r ≡ direct +ℤ incremental ⌝ }
+{
+    direct + incremental
+}
+
+// What a pair's line prints of the pair's cells, which stand from a place on.
+pub fn pair_amounts_at(cells: &[i64], k: usize) -> [i64; PAIR_AMOUNTS]
+    requires { ⌜ SmallFirst (now cells) (k + pairWidth) ⌝ }
+    ensures { λ r. ⌜ r ≡ pairAmounts (pairFrom (now (cells .entry)) k) ⌝ }
+{
+    let direct = cells[k];
+    let incremental = cells[k + 1];
+    let cost = both_costs(cells[k + 2], cells[k + 3]);
+    [direct, incremental, cost]
+}
+
+// What an open line prints of the source's.
+pub fn open_amounts_at(cells: &[i64], k: usize) -> [i64; OPEN_AMOUNTS]
+    requires { ⌜ SmallFirst (now cells) (k + openWidth) ⌝ }
+    ensures { λ r. ⌜ r ≡ openAmounts (openFrom (now (cells .entry)) k) ⌝ }
+{
+    let mwh = cells[k];
+    let cost = cells[k + 1];
+    [mwh, cost]
+}

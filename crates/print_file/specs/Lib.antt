@@ -1,0 +1,3 @@
+pub mod RecordLines
+pub mod Judging
+pub mod Lines

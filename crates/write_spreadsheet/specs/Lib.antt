@@ -1,0 +1,4 @@
+pub mod Rows
+pub mod HourFile
+pub mod FileFits
+pub mod Sheets
