@@ -6,10 +6,13 @@ use Rattle.barleyhood.proofs.source_label.Reads as source-label-call
 use Rattle.barleyhood.proofs.delivery_label.Reads as delivery-label-call
 use Rattle.barleyhood.proofs.labels.Reads as labels-call
 use Rattle.barleyhood.proofs.report.Reads as report-call
+use Rattle.barleyhood.proofs.deck_spreadsheet.Reads as deck-spreadsheet-call
 use Rattle.barleyhood.proofs.valid.Reads as valid-call
 use Rattle.barleyhood.proofs.write.Reads as write-call
 use Rattle.barleyhood.proofs.plain.Reads as plain-call
 use Rattle.barleyhood.proofs.price.Reads as price-call
+use Rattle.barleyhood.proofs.spreadsheet.Reads as spreadsheet-call
+use Rattle.barleyhood.proofs.spreadsheet_lines.Reads as spreadsheet-lines-call
 use Rattle.barleyhood.proofs.curve.Reads as curve-call
 use Rattle.barleyhood.proofs.cost.Reads as cost-call
 use Rattle.barleyhood.proofs.number_of.Reads as number-of-call
@@ -23,6 +26,8 @@ use Rattle.barleyhood.proofs.linked.barleyhood_report.Reads as barleyho
 use Rattle.barleyhood.proofs.linked.barleyhood_source_label.Reads as barleyhood-source-label-call
 use Rattle.barleyhood.proofs.linked.barleyhood_delivery_label.Reads as barleyhood-delivery-label-call
 use Rattle.barleyhood.proofs.linked.barleyhood_labels.Reads as barleyhood-labels-call
+use Rattle.barleyhood.proofs.linked.barleyhood_spreadsheet.Reads as barleyhood-spreadsheet-call
+use Rattle.barleyhood.proofs.linked.barleyhood_spreadsheet_lines.Reads as barleyhood-spreadsheet-lines-call
 
 abbrev pub AsksNothing : {K : Type 0} {A : K → Type 0} → ((κ : K) → A κ → Type 0) → Type 0
 AsksNothing {K} {A} asked = (κ : K) (a : A κ) → asked κ a
@@ -45,6 +50,9 @@ labels κ a = tt
 pub report : AsksNothing report-call.Asked
 report κ a = tt
 
+pub deck-spreadsheet : AsksNothing deck-spreadsheet-call.Asked
+deck-spreadsheet κ a = tt
+
 pub valid : AsksNothing valid-call.Asked
 valid κ a = tt
 
@@ -56,6 +64,12 @@ plain κ a = tt
 
 pub price : AsksNothing price-call.Asked
 price κ a = tt
+
+pub spreadsheet : AsksNothing spreadsheet-call.Asked
+spreadsheet κ a = tt
+
+pub spreadsheet-lines : AsksNothing spreadsheet-lines-call.Asked
+spreadsheet-lines κ a = tt
 
 pub curve : AsksNothing curve-call.Asked
 curve κ a = tt
@@ -95,3 +109,9 @@ barleyhood-delivery-label κ a = tt
 
 pub barleyhood-labels : AsksNothing barleyhood-labels-call.Asked
 barleyhood-labels κ a = tt
+
+pub barleyhood-spreadsheet : AsksNothing barleyhood-spreadsheet-call.Asked
+barleyhood-spreadsheet κ a = tt
+
+pub barleyhood-spreadsheet-lines : AsksNothing barleyhood-spreadsheet-lines-call.Asked
+barleyhood-spreadsheet-lines κ a = tt

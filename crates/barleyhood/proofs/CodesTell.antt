@@ -5,17 +5,19 @@ use mathlib.Core.List.{List, [], _∷_}
 use mathlib.Core.Path.{_≡_, refl, ap, _∙_}
 use Prim.Native.Nat.{ℕ, _+_, _*_, _/_, _%_, _<_, _≤_}
 use native.Mathlib.Omega.{arith}
-use borrow.Author.Tests.{ltb-true}
+use borrow.Author.Tests.{ltb-true, ltb-false}
 use lib.Dec.{ltb}
 use lib.IntN.{ℤ}
 use lib.ListN.{length, length-append}
 use Rattle.rules.specs.Calls as calls
-use Rattle.rules.specs.Calls.{reconstruction, reporting, sourcePart, sourcePartOf, deliveryPart, deliveryPartOf}
+use Rattle.rules.specs.Calls.{reconstruction, reporting, fileFor, deckSpreadsheet, spreadsheetLines, into, sourcePart, sourcePartOf, deliveryPart, deliveryPartOf}
 use Rattle.rules.specs.Places as places
 use Rattle.rules.specs.Places.{sourceStart, deliveryStart, sourcePlace, deliveryPlace, labelPlaces, labelling}
 use Rattle.rules.specs.Reading.{reading}
 use Rattle.rules.specs.Refusals.{Outcome, accepted, refused, refuse, andThen, numberOf, placeOf}
-use Rattle.rules.specs.Report.{report}
+use Rattle.rules.specs.Hour.{Progress, reconstructed}
+use Rattle.rules.specs.Report.{ReportLine, report, reportTexts, hourLines}
+use Rattle.rules.specs.Spreadsheet.{fileLines, fileText}
 use Rattle.rules.specs.Words.{if_then_else_, listTo}
 use Rattle.rules.specs.declared.Hour.{Hour}
 use Rattle.rules.specs.declared.Refusal.{Refusal}
@@ -23,11 +25,13 @@ use Rattle.rules.specs.declared.Refusal.the-variants.{Short}
 use Rattle.roundtrip.specs.DeckRoundTrip.{accepted-is-valid}
 use Rattle.roundtrip.specs.GivenHour.{accepted-given}
 use Rattle.laws.specs.Sums.{listTo-length}
+use Rattle.laws.specs.Choices.{refuse-passed, then-passed, accepted-same}
 use Rattle.refusals.specs.Codes.{codeOf}
 use Rattle.hour_lines.specs.HourLabels.{hour-labels, label-short}
 use Rattle.print_report.specs.ReportFits.{report-fits}
+use Rattle.write_spreadsheet.specs.FileFits.{mostFile, file-fits}
 use Rattle.outcomes.specs.AccountsCloseOverTheCells.{accepted-whole}
-use Rattle.outcomes.specs.CodesTell.{deck-told, cells-told, number-least}
+use Rattle.outcomes.specs.CodesTell.{deck-told, cells-told, spreadsheet-told, lines-told, number-least}
 use Rattle.barleyhood.specs.Linked as linked
 use Rattle.barleyhood.specs.Linked.{checkCode, sourcesCode, deliveriesCode, cellsOfDeck, writtenCode}
 use Rattle.barleyhood.proofs.linked.barleyhood_check.Reads as barleyhood-check-call
@@ -39,6 +43,8 @@ use Rattle.barleyhood.proofs.linked.barleyhood_report.Reads as barleyho
 use Rattle.barleyhood.proofs.linked.barleyhood_source_label.Reads as barleyhood-source-label-call
 use Rattle.barleyhood.proofs.linked.barleyhood_delivery_label.Reads as barleyhood-delivery-label-call
 use Rattle.barleyhood.proofs.linked.barleyhood_labels.Reads as barleyhood-labels-call
+use Rattle.barleyhood.proofs.linked.barleyhood_spreadsheet.Reads as barleyhood-spreadsheet-call
+use Rattle.barleyhood.proofs.linked.barleyhood_spreadsheet_lines.Reads as barleyhood-spreadsheet-lines-call
 
 abbrev pub Tells : {A : Type 0} → ℕ → Outcome A → Type 0
 Tells code (accepted v) = code < 4_294_967_296
@@ -171,3 +177,50 @@ labels-tell s size code e = go (reading s) refl e
 
 pub barleyhood-labels : (κ : _) (a : _) (code : ℕ) (x : _) → barleyhood-labels-call.Post κ a code x → Tells code (labelling (a .0 .now) (length (a .1 .0 .now)))
 barleyhood-labels κ a code x p = labels-tell (a .0 .now) (length (a .1 .0 .now)) code (p .0)
+
+-- Its spreadsheet file.
+
+-- what is written into lent bytes has no more of them
+into-fits : (size : ℕ) (text bytes : List ℕ) → into size text ≡ accepted bytes → (length bytes ≤ size) × (text ≡ bytes)
+into-fits size text bytes e =
+    let q = refuse-passed (ltb size (length text)) Short (accepted text) bytes e in
+    let k = accepted-same text bytes (q .1) in
+    (omega (arith, ltb-false size (length text) (q .0), ap length k), k)
+
+spreadsheet-fits : (s : List ℕ) (size : ℕ) (bytes : List ℕ) → deckSpreadsheet s size ≡ accepted bytes → length bytes ≤ mostFile
+unfolding calls.deckSpreadsheet calls.fileFor
+spreadsheet-fits s size bytes e =
+    let b = then-passed (reading s) (λ h. fileFor h size) bytes e in
+    let h = b .mid in
+    let g = then-passed (reconstructed h) (λ p. into size (fileText (hourLines h p))) bytes (b .second) in
+    let k = into-fits size (fileText (hourLines h (g .mid))) bytes (g .second) .1 in
+    omega (arith, ap length k, file-fits h (g .mid) (accepted-is-valid s h (b .first)) (g .first))
+
+spreadsheet-tells : (s : List ℕ) (size code : ℕ) → code ≡ writtenCode (deckSpreadsheet s size) → Tells code (deckSpreadsheet s size)
+spreadsheet-tells s size code e = go (deckSpreadsheet s size) refl e
+  where
+    go : (o : Outcome (List ℕ)) → deckSpreadsheet s size ≡ o → code ≡ writtenCode o → Tells code o
+    go (accepted bytes) oe e = omega (arith, e, spreadsheet-fits s size bytes oe)
+    go (refused r) oe e = let t = spreadsheet-told s size r oe in (ap (λ (n : ℕ). n / 4_294_967_296) e ∙ t .number, ap (λ (n : ℕ). n % 4_294_967_296) e ∙ t .place)
+
+pub barleyhood-spreadsheet : (κ : _) (a : _) (code : ℕ) (x : _) → barleyhood-spreadsheet-call.Post κ a code x → Tells code (deckSpreadsheet (a .0 .now) (length (a .1 .0 .now)))
+barleyhood-spreadsheet κ a code x p = spreadsheet-tells (a .0 .now) (length (a .1 .0 .now)) code (p .0)
+
+-- A file's lines. It may have any length, and so may they: here both have fewer than 2^32 bytes.
+
+lines-fit : (s : List ℕ) (size : ℕ) (bytes : List ℕ) → spreadsheetLines s size ≡ accepted bytes → length bytes ≤ size
+unfolding calls.spreadsheetLines
+lines-fit s size bytes e =
+    let b = then-passed (fileLines s) (λ ls. into size (reportTexts ls)) bytes e in
+    into-fits size (reportTexts (b .mid)) bytes (b .second) .0
+
+lines-tell : (s : List ℕ) (size code : ℕ) → length s < 4_294_967_295 → size < 4_294_967_296 → code ≡ writtenCode (spreadsheetLines s size) → Tells code (spreadsheetLines s size)
+lines-tell s size code short room e = go (spreadsheetLines s size) refl e
+  where
+    go : (o : Outcome (List ℕ)) → spreadsheetLines s size ≡ o → code ≡ writtenCode o → Tells code o
+    go (accepted bytes) oe e = omega (arith, e, lines-fit s size bytes oe)
+    go (refused r) oe e = let t = lines-told s size r short oe in (ap (λ (n : ℕ). n / 4_294_967_296) e ∙ t .number, ap (λ (n : ℕ). n % 4_294_967_296) e ∙ t .place)
+
+pub barleyhood-spreadsheet-lines : (κ : _) (a : _) (code : ℕ) (x : _) → length (a .0 .now) < 4_294_967_295 → length (a .1 .0 .now) < 4_294_967_296
+    → barleyhood-spreadsheet-lines-call.Post κ a code x → Tells code (spreadsheetLines (a .0 .now) (length (a .1 .0 .now)))
+barleyhood-spreadsheet-lines κ a code x short room p = lines-tell (a .0 .now) (length (a .1 .0 .now)) code short room (p .0)

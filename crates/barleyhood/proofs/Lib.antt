@@ -2,6 +2,7 @@
 pub mod AskNothing
 pub mod OneOutcome
 pub mod TwoCallsAgree
+pub mod FilesReadBack
 pub mod CodesTell
 pub mod MentionsAreNotLabels
 pub mod AccountsCloseOverTheCells

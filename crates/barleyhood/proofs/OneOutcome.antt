@@ -11,10 +11,13 @@ use Rattle.barleyhood.proofs.source_label.Reads as source-label-call
 use Rattle.barleyhood.proofs.delivery_label.Reads as delivery-label-call
 use Rattle.barleyhood.proofs.labels.Reads as labels-call
 use Rattle.barleyhood.proofs.report.Reads as report-call
+use Rattle.barleyhood.proofs.deck_spreadsheet.Reads as deck-spreadsheet-call
 use Rattle.barleyhood.proofs.valid.Reads as valid-call
 use Rattle.barleyhood.proofs.write.Reads as write-call
 use Rattle.barleyhood.proofs.plain.Reads as plain-call
 use Rattle.barleyhood.proofs.price.Reads as price-call
+use Rattle.barleyhood.proofs.spreadsheet.Reads as spreadsheet-call
+use Rattle.barleyhood.proofs.spreadsheet_lines.Reads as spreadsheet-lines-call
 use Rattle.barleyhood.proofs.curve.Reads as curve-call
 use Rattle.barleyhood.proofs.cost.Reads as cost-call
 use Rattle.barleyhood.proofs.number_of.Reads as number-of-call
@@ -28,6 +31,8 @@ use Rattle.barleyhood.proofs.linked.barleyhood_report.Reads as barleyho
 use Rattle.barleyhood.proofs.linked.barleyhood_source_label.Reads as barleyhood-source-label-call
 use Rattle.barleyhood.proofs.linked.barleyhood_delivery_label.Reads as barleyhood-delivery-label-call
 use Rattle.barleyhood.proofs.linked.barleyhood_labels.Reads as barleyhood-labels-call
+use Rattle.barleyhood.proofs.linked.barleyhood_spreadsheet.Reads as barleyhood-spreadsheet-call
+use Rattle.barleyhood.proofs.linked.barleyhood_spreadsheet_lines.Reads as barleyhood-spreadsheet-lines-call
 
 -- on the same arguments, what the first contract allows and what the second allows are the same in all that is seen of it
 abbrev pub Same : {K O : Type 0} {A R X : K → Type 0} → (first second : (κ : K) → A κ → R κ → X κ → Type 0) → (seen : (κ : K) → R κ → X κ → O) → Type 0
@@ -63,6 +68,9 @@ labels κ a r q x y = both
 pub report : OneOutcome {O = Written × List ℕ} report-call.Post (λ κ r x. (r, x .1 .0 .now))
 report κ a r q x y = both
 
+pub deck-spreadsheet : OneOutcome {O = Written × List ℕ} deck-spreadsheet-call.Post (λ κ r x. (r, x .1 .0 .now))
+deck-spreadsheet κ a r q x y = both
+
 -- Hour records.
 
 pub valid : OneOutcome valid-call.Post (λ κ r x. r)
@@ -76,6 +84,14 @@ plain κ a r q x y = both
 
 pub price : OneOutcome {O = Written × List ℤ} price-call.Post (λ κ r x. (r, x .1 .0 .now))
 price κ a r q x y = both
+
+pub spreadsheet : OneOutcome {O = Written × List ℕ} spreadsheet-call.Post (λ κ r x. (r, x .1 .0 .now))
+spreadsheet κ a r q x y = both
+
+-- Spreadsheet files.
+
+pub spreadsheet-lines : OneOutcome {O = Written × List ℕ} spreadsheet-lines-call.Post (λ κ r x. (r, x .1 .0 .now))
+spreadsheet-lines κ a r q x y = both
 
 -- Curves, costs and refusals.
 
@@ -119,3 +135,9 @@ barleyhood-delivery-label κ a r q x y = one
 
 pub barleyhood-labels : OneOutcome {O = ℕ × List ℕ} barleyhood-labels-call.Post (λ κ r x. (r, x .1 .0 .now))
 barleyhood-labels κ a r q x y = both
+
+pub barleyhood-spreadsheet : OneOutcome {O = ℕ × List ℕ} barleyhood-spreadsheet-call.Post (λ κ r x. (r, x .1 .0 .now))
+barleyhood-spreadsheet κ a r q x y = both
+
+pub barleyhood-spreadsheet-lines : OneOutcome {O = ℕ × List ℕ} barleyhood-spreadsheet-lines-call.Post (λ κ r x. (r, x .1 .0 .now))
+barleyhood-spreadsheet-lines κ a r q x y = both

@@ -1,6 +1,7 @@
 -- For every hour record and answer buffer the plain rule and the price search give the same refusal or the same cells, and so do the two functions for C
 -- for every deck; the two calls that tell where a label stands, for Rattle and for C, tell the same place; and the call that tells it of all labels tells of
--- each what the call for that one does.
+-- each what the call for that one does. The spreadsheet file of a deck is that of the hour record that is read from it, and the two functions for C on
+-- files give what the calls for Rattle give.
 use mathlib.Core.Bool.{Bool}
 use mathlib.Core.List.{List, [], _∷_, _++_, append-assoc}
 use mathlib.Core.Path.{_≡_, refl, sym, ap, _∙_}
@@ -11,7 +12,9 @@ use lib.Dec.{ltb}
 use lib.IntN.{ℤ}
 use lib.ListN.{length, getD, drop}
 use lib.Seq.{getD-append-add}
-use Rattle.rules.specs.Calls.{leaves}
+use Rattle.rules.specs.Answers.{writtenOf}
+use Rattle.rules.specs.Calls as calls
+use Rattle.rules.specs.Calls.{deckSpreadsheet, spreadsheetLines, fileFor, leaves}
 use Rattle.rules.specs.Places as places
 use Rattle.rules.specs.Places.{sourcePlace, deliveryPlace, labelPlaces, labelling}
 use Rattle.rules.specs.Reading.{reading}
@@ -20,21 +23,31 @@ use Rattle.rules.specs.Words.{listTo}
 use Rattle.rules.specs.declared.Hour.{Hour}
 use Rattle.rules.specs.declared.Refusal.the-variants.{Short}
 use Rattle.rules.specs.declared.Written.{Written}
+use Rattle.rules.specs.Writing.{valid}
+use Rattle.rules.specs.declared.Verdict.the-variants.{Accepted}
 use Rattle.laws.specs.Sums.{listTo-length, listTo-read}
+use Rattle.roundtrip.specs.DeckRoundTrip.{accepted-is-valid}
+use Rattle.deck.specs.Answers.{read-accepted}
 use Rattle.barleyhood.specs.Linked.{answerCode}
 use Rattle.barleyhood.specs.Told.{answer-code}
 use Rattle.barleyhood.proofs.OneOutcome.{Same, both}
 use Rattle.barleyhood.proofs.CodesTell as codes
+use Rattle.barleyhood.proofs.read.Reads as read-call
 use Rattle.barleyhood.proofs.plain.Reads as plain-call
 use Rattle.barleyhood.proofs.price.Reads as price-call
 use Rattle.barleyhood.proofs.source_label.Reads as source-label-call
 use Rattle.barleyhood.proofs.delivery_label.Reads as delivery-label-call
 use Rattle.barleyhood.proofs.labels.Reads as labels-call
+use Rattle.barleyhood.proofs.deck_spreadsheet.Reads as deck-spreadsheet-call
+use Rattle.barleyhood.proofs.spreadsheet.Reads as spreadsheet-call
+use Rattle.barleyhood.proofs.spreadsheet_lines.Reads as spreadsheet-lines-call
 use Rattle.barleyhood.proofs.linked.barleyhood_plain.Reads as barleyhood-plain-call
 use Rattle.barleyhood.proofs.linked.barleyhood_price.Reads as barleyhood-price-call
 use Rattle.barleyhood.proofs.linked.barleyhood_source_label.Reads as barleyhood-source-label-call
 use Rattle.barleyhood.proofs.linked.barleyhood_delivery_label.Reads as barleyhood-delivery-label-call
 use Rattle.barleyhood.proofs.linked.barleyhood_labels.Reads as barleyhood-labels-call
+use Rattle.barleyhood.proofs.linked.barleyhood_spreadsheet.Reads as barleyhood-spreadsheet-call
+use Rattle.barleyhood.proofs.linked.barleyhood_spreadsheet_lines.Reads as barleyhood-spreadsheet-lines-call
 
 pub plain-and-price : Same {O = Written × List ℤ} plain-call.Post price-call.Post (λ κ r x. (r, x .1 .0 .now))
 plain-and-price κ a r q x y = both
@@ -104,3 +117,34 @@ module _ (κ : _) (a : _) (code : ℕ) (x : _) (p : barleyhood-labels-call.Post 
   labels-deliveries κ b one y q same l =
       ap (λ (xs : List ℕ). getD xs (h .nsources + b .1 .0) 0) (p .1) ∙ delivery-left (a .0 .now) (a .1 .0 .now) h e fits (b .1 .0) l
       ∙ ap (λ (s : List ℕ). deliveryPlace s (b .1 .0)) (sym same) ∙ sym q
+
+-- Spreadsheet files.
+
+pub spreadsheets : (κ : _) (a : _) (r : Written) (code : ℕ) (x y : _) → deck-spreadsheet-call.Post κ a r x → barleyhood-spreadsheet-call.Post κ a code y
+    → (code ≡ answerCode r) × (x .1 .0 .now ≡ y .1 .0 .now)
+spreadsheets κ a r code x y p q =
+    let o = deckSpreadsheet (a .0 .now) (length (a .1 .0 .now)) in
+    (q .0 ∙ sym (answer-code o) ∙ ap answerCode (sym (p .0)), p .1 ∙ sym (q .1))
+
+pub lines : (κ : _) (a : _) (r : Written) (code : ℕ) (x y : _) → spreadsheet-lines-call.Post κ a r x → barleyhood-spreadsheet-lines-call.Post κ a code y
+    → (code ≡ answerCode r) × (x .1 .0 .now ≡ y .1 .0 .now)
+lines κ a r code x y p q =
+    let o = spreadsheetLines (a .0 .now) (length (a .1 .0 .now)) in
+    (q .0 ∙ sym (answer-code o) ∙ ap answerCode (sym (p .0)), p .1 ∙ sym (q .1))
+
+record-and-deck : (s : List ℕ) (h : Hour) (size : ℕ) → reading s ≡ accepted h → calls.spreadsheet h size ≡ deckSpreadsheet s size
+unfolding calls.spreadsheet calls.deckSpreadsheet
+record-and-deck s h size e = rw (e, accepted-is-valid s h e)
+
+pub spreadsheet-of-the-hour : (κ : _) (a : _) (hour : _) (x : _) → read-call.Post κ a hour x → hour .verdict ≡ Accepted
+    → (λs : _) (b : _) (r : Written) (y : _) → b .0 ≡ hour .hour → spreadsheet-call.Post λs b r y
+    → (μs : _) (c : _) (q : Written) (z : _) → c .0 .now ≡ a .0 .now → c .1 .0 .now ≡ b .1 .0 .now → deck-spreadsheet-call.Post μs c q z
+    → _≡_ {A = Written × List ℕ} (r, y .1 .0 .now) (q, z .1 .0 .now)
+spreadsheet-of-the-hour κ a hour x p accepts λs b r y same t μs c q z deck lent v =
+    let out = b .1 .0 .now in
+    let is : reading (c .0 .now) ≡ accepted (b .0) = ap reading deck ∙ sym (read-accepted (reading (a .0 .now)) hour p accepts) ∙ ap accepted (sym same) in
+    let k : calls.spreadsheet (b .0) (length out) ≡ deckSpreadsheet (c .0 .now) (length (c .1 .0 .now)) =
+    record-and-deck (c .0 .now) (b .0) (length out) is ∙ ap (λ (w : List ℕ). deckSpreadsheet (c .0 .now) (length w)) (sym lent) in
+    both
+    (t .0 ∙ ap writtenOf k, t .1 ∙ ap (λ (o : Outcome (List ℕ)). leaves o out) k ∙ ap (leaves (deckSpreadsheet (c .0 .now) (length (c .1 .0 .now)))) (sym lent))
+    (v .0, v .1)

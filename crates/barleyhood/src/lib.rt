@@ -7,7 +7,8 @@ ghost use Prim.Native.Nat.{_+_};
 ghost use lib.ListN.{length};
 ghost use denote.Ref.{ptr};
 ghost use Rattle.rules.specs.Answers.{verdictOf, writtenOf, curveAnswer, costAnswer};
-ghost use Rattle.rules.specs.Calls.{writing, reconstruction, reporting, leaves, sourcePart, deliveryPart};
+ghost use Rattle.rules.specs.Calls as calls;
+ghost use Rattle.rules.specs.Calls.{writing, reconstruction, reporting, deckSpreadsheet, spreadsheetLines, leaves, sourcePart, deliveryPart};
 ghost use Rattle.rules.specs.Places.{sourceStart, deliveryStart, labelling};
 ghost use Rattle.rules.specs.Reading.{reading};
 ghost use Rattle.rules.specs.Refusals.{numberOf, placeOf};
@@ -80,6 +81,14 @@ pub fn report(s: &[u8], out: &mut [u8]) -> Written
     print_report::report(s, out)
 }
 
+// The allocations of the deck's hour as a spreadsheet file into lent bytes: 1 to 11, then 12 or 13, then 14.
+pub fn deck_spreadsheet(s: &[u8], out: &mut [u8]) -> Written
+    ensures outcome { λ r. ⌜ r ≡ writtenOf (deckSpreadsheet (now (s .entry)) (length (now (out .entry)))) ⌝ }
+    ensures bytes { λ _. ⌜ now (out .exit) ≡ leaves (deckSpreadsheet (now (s .entry)) (length (now (out .entry)))) (now (out .entry)) ⌝ }
+{
+    write_spreadsheet::deck_spreadsheet(s, out)
+}
+
 // Hour records.
 
 // Whether some deck gives the record; where none does, the calls below refuse it with 15.
@@ -111,6 +120,24 @@ pub fn price(h: Hour, out: &mut [i64]) -> Written
     ensures cells { λ _. ⌜ now (out .exit) ≡ leaves (reconstruction h (length (now (out .entry)))) (now (out .entry)) ⌝ }
 {
     reconstruct::price(h, out)
+}
+
+// The hour's allocations as a spreadsheet file into lent bytes: 15, then 12 or 13, then 14.
+pub fn spreadsheet(h: Hour, out: &mut [u8]) -> Written
+    ensures outcome { λ r. ⌜ r ≡ writtenOf (calls.spreadsheet h (length (now (out .entry)))) ⌝ }
+    ensures bytes { λ _. ⌜ now (out .exit) ≡ leaves (calls.spreadsheet h (length (now (out .entry)))) (now (out .entry)) ⌝ }
+{
+    write_spreadsheet::spreadsheet(h, out)
+}
+
+// Spreadsheet files.
+
+// The lines of a file, as the report prints them, into lent bytes: 16, then 14.
+pub fn spreadsheet_lines(file: &[u8], out: &mut [u8]) -> Written
+    ensures outcome { λ r. ⌜ r ≡ writtenOf (spreadsheetLines (now (file .entry)) (length (now (out .entry)))) ⌝ }
+    ensures bytes { λ _. ⌜ now (out .exit) ≡ leaves (spreadsheetLines (now (file .entry)) (length (now (out .entry)))) (now (out .entry)) ⌝ }
+{
+    print_file::lines(file, out)
 }
 
 // Curves and costs.

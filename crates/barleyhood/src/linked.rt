@@ -2,7 +2,7 @@
 // An answer is a count or refusals' codeOf of a refusal, which is 2^32 or more, or a label's place. The contracts cite rules' definitions, and Linked for the answer.
 ghost use mathlib.Core.Path.{_≡_};
 ghost use lib.ListN.{length};
-ghost use Rattle.rules.specs.Calls.{reporting, leaves};
+ghost use Rattle.rules.specs.Calls.{reporting, deckSpreadsheet, spreadsheetLines, leaves};
 ghost use Rattle.rules.specs.Places.{sourcePlace, deliveryPlace, labelling};
 ghost use Rattle.rules.specs.Reading.{reading};
 ghost use Rattle.barleyhood.specs.Linked.{checkCode, sourcesCode, deliveriesCode, cellsOfDeck, writtenCode, answerCode};
@@ -120,4 +120,22 @@ pub extern "C" fn barleyhood_labels(s: &[u8], out: &mut [u64]) -> u64
     ensures places { λ _. ⌜ now (out .exit) ≡ leaves (labelling (now (s .entry)) (length (now (out .entry)))) (now (out .entry)) ⌝ }
 {
     written_code(label_places::all_places(s, out))
+}
+
+// The allocations of the deck's hour as a spreadsheet file, and how many bytes it has.
+#[no_mangle]
+pub extern "C" fn barleyhood_spreadsheet(s: &[u8], out: &mut [u8]) -> u64
+    ensures code { λ r. ⌜ r ≡ writtenCode (deckSpreadsheet (now (s .entry)) (length (now (out .entry)))) ⌝ }
+    ensures bytes { λ _. ⌜ now (out .exit) ≡ leaves (deckSpreadsheet (now (s .entry)) (length (now (out .entry)))) (now (out .entry)) ⌝ }
+{
+    written_code(write_spreadsheet::deck_spreadsheet(s, out))
+}
+
+// The lines of a file as the report prints them, and how many bytes they have.
+#[no_mangle]
+pub extern "C" fn barleyhood_spreadsheet_lines(file: &[u8], out: &mut [u8]) -> u64
+    ensures code { λ r. ⌜ r ≡ writtenCode (spreadsheetLines (now (file .entry)) (length (now (out .entry)))) ⌝ }
+    ensures bytes { λ _. ⌜ now (out .exit) ≡ leaves (spreadsheetLines (now (file .entry)) (length (now (out .entry)))) (now (out .entry)) ⌝ }
+{
+    written_code(print_file::lines(file, out))
 }

@@ -1,11 +1,11 @@
--- The one number that a call for C gives back for a refusal tells the refusal's number and its place: no deck's refusal has a place above 99, and no
--- reconstruction's one above 999.
---     deck-told, cells-told
+-- The one number that a call for C gives back for a refusal tells the refusal's number and its place: no deck's refusal has a place above 99, no
+-- reconstruction's and no spreadsheet's one above 999, and a file's is at most one more than it has bytes.
+--     deck-told, cells-told, spreadsheet-told, lines-told
 use mathlib.Core.Bool.{Bool, true, false, not, _&&_}
 use mathlib.Core.List.{List, [], _∷_}
 use mathlib.Core.Option.{Option, none, some}
 use mathlib.Core.Path.{_≡_, refl, sym, ap, _∙_}
-use Prim.Native.Nat.{ℕ, zero, suc, _+_, _-_, _/_, _%_, _≤_}
+use Prim.Native.Nat.{ℕ, zero, suc, _+_, _-_, _/_, _%_, _≤_, _<_}
 use native.Mathlib.Omega.{arith}
 use borrow.Author.Tests.{leb-false, not-false}
 use lib.Dec.{eqb, leb, ltb}
@@ -13,21 +13,25 @@ use lib.ListN.{length}
 use Rattle.balance.specs.EveryGroupIsDone.{every-number-is-low}
 use Rattle.balance.specs.RefusedExactly.{unload-refused, credit-refused}
 use Rattle.refusals.specs.Codes.{codeOf}
+use Rattle.file_roundtrip.specs.FileRoundTrip.{refusal-is-16}
 use Rattle.laws.specs.Keys.{among, among-first, among-later, among-turns, among-found}
 use Rattle.laws.specs.Lists.{findTo-passes}
+use Rattle.roundtrip.specs.DeckRoundTrip.{accepted-is-valid}
 use Rattle.rules.specs.Calls as calls
-use Rattle.rules.specs.Calls.{reconstruction}
+use Rattle.rules.specs.Calls.{reconstruction, fileFor, deckSpreadsheet, spreadsheetLines, into}
 use Rattle.rules.specs.Fields.{Chars, Field, got, malformed}
 use Rattle.rules.specs.Group as groupRules
 use Rattle.rules.specs.Group.{groupLines, remainder, unload, credit}
 use Rattle.rules.specs.Hour as hours
-use Rattle.rules.specs.Hour.{Progress, cellCount, cellsOf, group, groups, opening, keys, member, scheduled, shared, tookAll, turns}
+use Rattle.rules.specs.Hour.{Progress, cellCount, cellsOf, group, groups, opening, keys, member, reconstructed, scheduled, shared, tookAll, turns}
 use Rattle.rules.specs.Lines.{Fields, H, U, P, F, T, D, E, Letter, Line, fieldsOf, lineAt, ranged}
 use Rattle.rules.specs.Reading as readings
 use Rattle.rules.specs.Reading.{allPlaced, basisKept, belowHigh, delivered, deliveryNamed, deliveryTaken, deliveryUsed, directTaken, finished, generated, headed, headedAs, isEnd, lineNumber, linesFrom, named, onLine, percentsOf, reading, sourceTaken, sourceUsed, taken, takenAs, turn, unitNamed, unplaced}
 use Rattle.rules.specs.Record as records
 use Rattle.rules.specs.Record.{deliveryOf, fixedOf, labelOf, purchaseOf, sourceAt, unitOf}
 use Rattle.rules.specs.Refusals.{Outcome, accepted, refused, refuse, andThen, numberOf, placeOf}
+use Rattle.rules.specs.Report.{ReportLine, hourLines, reportTexts}
+use Rattle.rules.specs.Spreadsheet.{fileLines, fileText}
 use Rattle.rules.specs.Units.{levelled}
 use Rattle.rules.specs.Words.{if_then_else_}
 use Rattle.rules.specs.Writing.{valid}
@@ -204,12 +208,21 @@ turn-low h v y e =
     let g = ap (λ (k : Key). k .number .0) (f .is) in
     omega arith
 
+run-told : (h : Hour) → valid h ≡ true → Gone (reconstructed h)
+unfolding hours.reconstructed
+run-told h v = groups-told h (keys h) (turns (keys h)) (opening h) (turn-low h v)
+
 reconstruction-told : (h : Hour) (size : ℕ) → Gone (reconstruction h size)
-unfolding calls.reconstruction calls.cellsFor hours.answer hours.reconstructed
+unfolding calls.reconstruction calls.cellsFor hours.answer
 reconstruction-told h size =
     refuse-told 999 Any (not (valid h)) NoDeck _ (omega arith) λ a. refuse-told 999 Any (ltb size (cellCount h)) Short _ (omega arith) λ b.
-    then-told 999 Any Any (groups h (keys h) (turns (keys h)) (opening h)) (λ p. accepted (cellsOf h p))
-    (groups-told h (keys h) (turns (keys h)) (opening h) (turn-low h (not-false (valid h) a))) (λ p t. tt)
+    then-told 999 Any Any (reconstructed h) (λ p. accepted (cellsOf h p)) (run-told h (not-false (valid h) a)) (λ p t. tt)
+
+file-told : (h : Hour) (size : ℕ) → valid h ≡ true → Gone (fileFor h size)
+unfolding calls.fileFor
+file-told h size v =
+    then-told 999 Any Any (reconstructed h) (λ p. into size (fileText (hourLines h p))) (run-told h v)
+    (λ p t. refuse-told 999 Any (ltb size (length (fileText (hourLines h p)))) Short _ (omega arith) λ a. tt)
 
 -- What the code tells.
 
@@ -236,7 +249,7 @@ pub record Tells (r : Refusal) : Type 0 where
   pub number : codeOf r / 4_294_967_296 ≡ numberOf r
   pub place : codeOf r % 4_294_967_296 ≡ placeOf r
 
-tells : (r : Refusal) → placeOf r ≤ 999 → Tells r
+tells : (r : Refusal) → placeOf r < 4_294_967_296 → Tells r
 tells r l = record { number = omega arith; place = omega arith }
 
 -- of a deck that is refused
@@ -245,4 +258,24 @@ deck-told s r e = let l = told-refused 99 Few (reading s) r (reading-told s) e i
 
 -- of an hour record that is
 pub cells-told : (h : Hour) (size : ℕ) (r : Refusal) → reconstruction h size ≡ refused r → Tells r
-cells-told h size r e = tells r (told-refused 999 Any (reconstruction h size) r (reconstruction-told h size) e)
+cells-told h size r e = let l = told-refused 999 Any (reconstruction h size) r (reconstruction-told h size) e in tells r (omega arith)
+
+-- of a deck that has no spreadsheet file, or one too long for what is lent
+pub spreadsheet-told : (s : List ℕ) (size : ℕ) (r : Refusal) → deckSpreadsheet s size ≡ refused r → Tells r
+unfolding calls.deckSpreadsheet
+spreadsheet-told s size r e = go (reading s) refl e
+  where
+    go : (o : Outcome Hour) → reading s ≡ o → (andThen o λ h. fileFor h size) ≡ refused r → Tells r
+    go (accepted h) oe e = let l = told-refused 999 Any (fileFor h size) r (file-told h size (accepted-is-valid s h oe)) e in tells r (omega arith)
+    go (refused q) oe e = deck-told s r (oe ∙ e)
+
+-- of a file that is refused
+pub lines-told : (s : List ℕ) (size : ℕ) (r : Refusal) → length s < 4_294_967_295 → spreadsheetLines s size ≡ refused r → Tells r
+unfolding calls.spreadsheetLines
+lines-told s size r short e = go (fileLines s) refl e
+  where
+    go : (o : Outcome (List ReportLine)) → fileLines s ≡ o → (andThen o λ ls. into size (reportTexts ls)) ≡ refused r → Tells r
+    go (accepted ls) oe e =
+        let l = told-refused 999 Any (into size (reportTexts ls)) r (refuse-told 999 Any (ltb size (length (reportTexts ls))) Short _ (omega arith) λ a. tt) e in
+        tells r (omega arith)
+    go (refused q) oe e = let l = refusal-is-16 s r (oe ∙ e) .1 .1 in tells r (omega arith)
