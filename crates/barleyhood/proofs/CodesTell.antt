@@ -31,7 +31,7 @@ use Rattle.hour_lines.specs.HourLabels.{hour-labels, label-short}
 use Rattle.print_report.specs.ReportFits.{report-fits}
 use Rattle.write_spreadsheet.specs.FileFits.{mostFile, file-fits}
 use Rattle.outcomes.specs.AccountsCloseOverTheCells.{accepted-whole}
-use Rattle.outcomes.specs.CodesTell.{deck-told, cells-told, spreadsheet-told, lines-told, number-least}
+use Rattle.outcomes.specs.CodesTell.{deck-told, cells-told, spreadsheet-told, file-told, number-least}
 use Rattle.barleyhood.specs.Linked as linked
 use Rattle.barleyhood.specs.Linked.{checkCode, sourcesCode, deliveriesCode, cellsOfDeck, writtenCode}
 use Rattle.barleyhood.proofs.linked.barleyhood_check.Reads as barleyhood-check-call
@@ -219,8 +219,8 @@ lines-tell s size code short room e = go (spreadsheetLines s size) refl e
   where
     go : (o : Outcome (List ℕ)) → spreadsheetLines s size ≡ o → code ≡ writtenCode o → Tells code o
     go (accepted bytes) oe e = omega (arith, e, lines-fit s size bytes oe)
-    go (refused r) oe e = let t = lines-told s size r short oe in (ap (λ (n : ℕ). n / 4_294_967_296) e ∙ t .number, ap (λ (n : ℕ). n % 4_294_967_296) e ∙ t .place)
+    go (refused r) oe e = let t = file-told s size r short oe in (ap (λ (n : ℕ). n / 4_294_967_296) e ∙ t .number, ap (λ (n : ℕ). n % 4_294_967_296) e ∙ t .place)
 
-pub barleyhood-spreadsheet-lines : (κ : _) (a : _) (code : ℕ) (x : _) → length (a .0 .now) < 4_294_967_295 → length (a .1 .0 .now) < 4_294_967_296
-    → barleyhood-spreadsheet-lines-call.Post κ a code x → Tells code (spreadsheetLines (a .0 .now) (length (a .1 .0 .now)))
-barleyhood-spreadsheet-lines κ a code x short room p = lines-tell (a .0 .now) (length (a .1 .0 .now)) code short room (p .0)
+pub barleyhood-spreadsheet-lines : (κ : _) (a : _) (code : ℕ) (x : _) → barleyhood-spreadsheet-lines-call.Post κ a code x
+    → length (a .0 .now) < 4_294_967_295 → length (a .1 .0 .now) < 4_294_967_296 → Tells code (spreadsheetLines (a .0 .now) (length (a .1 .0 .now)))
+barleyhood-spreadsheet-lines κ a code x p short room = lines-tell (a .0 .now) (length (a .1 .0 .now)) code short room (p .0)

@@ -27,14 +27,14 @@ first-bytes : (o : Outcome (List ℕ)) (n : ℕ) (entry exit : List ℕ) → Cou
 first-bytes o n entry exit e f =
     let w = written-count o n (sym e) in
     let bytes = w .0 in
-    let left : exit ≡ bytes ++ drop (length bytes) entry = f ∙ ap (λ (o : Outcome (List ℕ)). leaves o entry) (w .1 .0) in
-    w .1 .0 ∙ ap accepted (sym (ap (λ (k : ℕ). take k exit) (sym (w .1 .1)) ∙ ap (take (length bytes)) left ∙ take-append-seam bytes (drop (length bytes) entry)))
+    let left : exit ≡ bytes ++ drop (length bytes) entry = f ∙ ap (λ (o : Outcome (List ℕ)). leaves o entry) (w .1) in
+    w .1 ∙ ap accepted (sym (ap (λ (k : ℕ). take k exit) (sym (w .2)) ∙ ap (take (length bytes)) left ∙ take-append-seam bytes (drop (length bytes) entry)))
 
 -- the call on a file that prints as the report of the deck s does, and the report's own call on s, with the same bytes lent
-same-as-the-report : (s : List ℕ) (κ : _) (a : _) (r : Written) (x : _) (m : _) (b : _) (q : Written) (y : _) → ((n : ℕ) → spreadsheetLines (a .0 .now) n ≡ into n (report s))
-    → spreadsheet-lines-call.Post κ a r x → b .0 .now ≡ s → b .1 .0 .now ≡ a .1 .0 .now → report-call.Post m b q y → _≡_ {A = Written × List ℕ} (r, x .1 .0 .now) (q, y .1 .0 .now)
+same-as-the-report : (s : List ℕ) (κ : _) (a : _) (r : Written) (x : _) (m : _) (b : _) (q : Written) (y : _) → spreadsheet-lines-call.Post κ a r x → report-call.Post m b q y
+    → ((n : ℕ) → spreadsheetLines (a .0 .now) n ≡ into n (report s)) → b .0 .now ≡ s → b .1 .0 .now ≡ a .1 .0 .now → _≡_ {A = Written × List ℕ} (r, x .1 .0 .now) (q, y .1 .0 .now)
 unfolding calls.reporting
-same-as-the-report s κ a r x m b q y prints p deck lent t =
+same-as-the-report s κ a r x m b q y p t prints deck lent =
     let file = a .0 .now in
     let out = a .1 .0 .now in
     let told : reporting (b .0 .now) (length (b .1 .0 .now)) ≡ reporting s (length out) = ap (λ (s : List ℕ). reporting s (length (b .1 .0 .now))) deck ∙ ap (λ (w : List ℕ). reporting s (length w)) lent in
@@ -44,20 +44,20 @@ same-as-the-report s κ a r x m b q y prints p deck lent t =
     (t .0, t .1)
 
 pub deck-file : (κ : _) (a : _) (n : ℕ) (x : _) → deck-spreadsheet-call.Post κ a (Count n) x
-    → (λs : _) (b : _) (r : Written) (y : _) → b .0 .now ≡ take n (x .1 .0 .now) → spreadsheet-lines-call.Post λs b r y
-    → (μs : _) (c : _) (q : Written) (z : _) → c .0 .now ≡ a .0 .now → c .1 .0 .now ≡ b .1 .0 .now → report-call.Post μs c q z
+    → (λs : _) (b : _) (r : Written) (y : _) → spreadsheet-lines-call.Post λs b r y → b .0 .now ≡ take n (x .1 .0 .now)
+    → (μs : _) (c : _) (q : Written) (z : _) → report-call.Post μs c q z → c .0 .now ≡ a .0 .now → c .1 .0 .now ≡ b .1 .0 .now
     → _≡_ {A = Written × List ℕ} (r, y .1 .0 .now) (q, z .1 .0 .now)
-deck-file κ a n x p λs b r y file t μs c q z =
+deck-file κ a n x p λs b r y t file μs c q z v =
     let given = first-bytes (deckSpreadsheet (a .0 .now) (length (a .1 .0 .now))) n (a .1 .0 .now) (x .1 .0 .now) (p .0) (p .1) in
-    same-as-the-report (a .0 .now) λs b r y μs c q z
-    (λ m. ap (λ (w : List ℕ). spreadsheetLines w m) file ∙ deck-file-prints (a .0 .now) (length (a .1 .0 .now)) (take n (x .1 .0 .now)) given m) t
+    same-as-the-report (a .0 .now) λs b r y μs c q z t v
+    (λ m. ap (λ (w : List ℕ). spreadsheetLines w m) file ∙ deck-file-prints (a .0 .now) (length (a .1 .0 .now)) (take n (x .1 .0 .now)) given m)
 
 -- of a record: the report of the deck that is its writing
 pub record-file : (κ : _) (a : _) (n : ℕ) (x : _) → spreadsheet-call.Post κ a (Count n) x
-    → (λs : _) (b : _) (r : Written) (y : _) → b .0 .now ≡ take n (x .1 .0 .now) → spreadsheet-lines-call.Post λs b r y
-    → (μs : _) (c : _) (q : Written) (z : _) → c .0 .now ≡ deckText (a .0) → c .1 .0 .now ≡ b .1 .0 .now → report-call.Post μs c q z
+    → (λs : _) (b : _) (r : Written) (y : _) → spreadsheet-lines-call.Post λs b r y → b .0 .now ≡ take n (x .1 .0 .now)
+    → (μs : _) (c : _) (q : Written) (z : _) → report-call.Post μs c q z → c .0 .now ≡ deckText (a .0) → c .1 .0 .now ≡ b .1 .0 .now
     → _≡_ {A = Written × List ℕ} (r, y .1 .0 .now) (q, z .1 .0 .now)
-record-file κ a n x p λs b r y file t μs c q z =
+record-file κ a n x p λs b r y t file μs c q z v =
     let given = first-bytes (calls.spreadsheet (a .0) (length (a .1 .0 .now))) n (a .1 .0 .now) (x .1 .0 .now) (p .0) (p .1) in
-    same-as-the-report (deckText (a .0)) λs b r y μs c q z
-    (λ m. ap (λ (w : List ℕ). spreadsheetLines w m) file ∙ hour-file-reports (a .0) (length (a .1 .0 .now)) (take n (x .1 .0 .now)) given m) t
+    same-as-the-report (deckText (a .0)) λs b r y μs c q z t v
+    (λ m. ap (λ (w : List ℕ). spreadsheetLines w m) file ∙ hour-file-reports (a .0) (length (a .1 .0 .now)) (take n (x .1 .0 .now)) given m)

@@ -81,7 +81,7 @@ barleyhood-price κ a code x p high = code-leaves (cellsOfDeck (a .0 .now) (leng
 pub barleyhood-spreadsheet : (κ : _) (a : _) (code : ℕ) (x : _) → barleyhood-spreadsheet-call.Post κ a code x → 4_294_967_296 ≤ code → x .1 .0 .now ≡ a .1 .0 .now
 barleyhood-spreadsheet κ a code x p high = code-leaves (deckSpreadsheet (a .0 .now) (length (a .1 .0 .now))) code _ _ (codes.barleyhood-spreadsheet κ a code x p) high (p .1)
 
-pub barleyhood-spreadsheet-lines : (κ : _) (a : _) (code : ℕ) (x : _) → length (a .0 .now) < 4_294_967_295 → length (a .1 .0 .now) < 4_294_967_296
-    → barleyhood-spreadsheet-lines-call.Post κ a code x → 4_294_967_296 ≤ code → x .1 .0 .now ≡ a .1 .0 .now
-barleyhood-spreadsheet-lines κ a code x short room p high =
-    code-leaves (spreadsheetLines (a .0 .now) (length (a .1 .0 .now))) code _ _ (codes.barleyhood-spreadsheet-lines κ a code x short room p) high (p .1)
+pub barleyhood-spreadsheet-lines : (κ : _) (a : _) (code : ℕ) (x : _) → barleyhood-spreadsheet-lines-call.Post κ a code x → 4_294_967_296 ≤ code
+    → length (a .0 .now) < 4_294_967_295 → length (a .1 .0 .now) < 4_294_967_296 → x .1 .0 .now ≡ a .1 .0 .now
+barleyhood-spreadsheet-lines κ a code x p high short room =
+    code-leaves (spreadsheetLines (a .0 .now) (length (a .1 .0 .now))) code _ _ (codes.barleyhood-spreadsheet-lines κ a code x p short room) high (p .1)

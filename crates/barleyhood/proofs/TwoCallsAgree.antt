@@ -137,10 +137,10 @@ unfolding calls.spreadsheet calls.deckSpreadsheet
 record-and-deck s h size e = rw (e, accepted-is-valid s h e)
 
 pub spreadsheet-of-the-hour : (κ : _) (a : _) (hour : _) (x : _) → read-call.Post κ a hour x → hour .verdict ≡ Accepted
-    → (λs : _) (b : _) (r : Written) (y : _) → b .0 ≡ hour .hour → spreadsheet-call.Post λs b r y
-    → (μs : _) (c : _) (q : Written) (z : _) → c .0 .now ≡ a .0 .now → c .1 .0 .now ≡ b .1 .0 .now → deck-spreadsheet-call.Post μs c q z
+    → (λs : _) (b : _) (r : Written) (y : _) → spreadsheet-call.Post λs b r y → b .0 ≡ hour .hour
+    → (μs : _) (c : _) (q : Written) (z : _) → deck-spreadsheet-call.Post μs c q z → c .0 .now ≡ a .0 .now → c .1 .0 .now ≡ b .1 .0 .now
     → _≡_ {A = Written × List ℕ} (r, y .1 .0 .now) (q, z .1 .0 .now)
-spreadsheet-of-the-hour κ a hour x p accepts λs b r y same t μs c q z deck lent v =
+spreadsheet-of-the-hour κ a hour x p accepts λs b r y t same μs c q z v deck lent =
     let out = b .1 .0 .now in
     let is : reading (c .0 .now) ≡ accepted (b .0) = ap reading deck ∙ sym (read-accepted (reading (a .0 .now)) hour p accepts) ∙ ap accepted (sym same) in
     let k : calls.spreadsheet (b .0) (length out) ≡ deckSpreadsheet (c .0 .now) (length (c .1 .0 .now)) =

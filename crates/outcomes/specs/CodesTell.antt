@@ -1,6 +1,6 @@
 -- The one number that a call for C gives back for a refusal tells the refusal's number and its place: no deck's refusal has a place above 99, no
 -- reconstruction's and no spreadsheet's one above 999, and a file's is at most one more than it has bytes.
---     deck-told, cells-told, spreadsheet-told, lines-told
+--     deck-told, cells-told, spreadsheet-told, file-told
 use mathlib.Core.Bool.{Bool, true, false, not, _&&_}
 use mathlib.Core.List.{List, [], _∷_}
 use mathlib.Core.Option.{Option, none, some}
@@ -218,9 +218,9 @@ reconstruction-told h size =
     refuse-told 999 Any (not (valid h)) NoDeck _ (omega arith) λ a. refuse-told 999 Any (ltb size (cellCount h)) Short _ (omega arith) λ b.
     then-told 999 Any Any (reconstructed h) (λ p. accepted (cellsOf h p)) (run-told h (not-false (valid h) a)) (λ p t. tt)
 
-file-told : (h : Hour) (size : ℕ) → valid h ≡ true → Gone (fileFor h size)
+hour-file-told : (h : Hour) (size : ℕ) → valid h ≡ true → Gone (fileFor h size)
 unfolding calls.fileFor
-file-told h size v =
+hour-file-told h size v =
     then-told 999 Any Any (reconstructed h) (λ p. into size (fileText (hourLines h p))) (run-told h v)
     (λ p t. refuse-told 999 Any (ltb size (length (fileText (hourLines h p)))) Short _ (omega arith) λ a. tt)
 
@@ -266,16 +266,19 @@ unfolding calls.deckSpreadsheet
 spreadsheet-told s size r e = go (reading s) refl e
   where
     go : (o : Outcome Hour) → reading s ≡ o → (andThen o λ h. fileFor h size) ≡ refused r → Tells r
-    go (accepted h) oe e = let l = told-refused 999 Any (fileFor h size) r (file-told h size (accepted-is-valid s h oe)) e in tells r (omega arith)
-    go (refused q) oe e = deck-told s r (oe ∙ e)
+    go (accepted h) oe e = let l = told-refused 999 Any (fileFor h size) r (hour-file-told h size (accepted-is-valid s h oe)) e in tells r (omega arith)
+    go (refused q) oe e = let k : q ≡ r = cc in deck-told s r (oe ∙ ap refused k)
 
 -- of a file that is refused
-pub lines-told : (s : List ℕ) (size : ℕ) (r : Refusal) → length s < 4_294_967_295 → spreadsheetLines s size ≡ refused r → Tells r
+pub file-told : (s : List ℕ) (size : ℕ) (r : Refusal) → length s < 4_294_967_295 → spreadsheetLines s size ≡ refused r → Tells r
 unfolding calls.spreadsheetLines
-lines-told s size r short e = go (fileLines s) refl e
+file-told s size r short e = go (fileLines s) refl e
   where
     go : (o : Outcome (List ReportLine)) → fileLines s ≡ o → (andThen o λ ls. into size (reportTexts ls)) ≡ refused r → Tells r
     go (accepted ls) oe e =
         let l = told-refused 999 Any (into size (reportTexts ls)) r (refuse-told 999 Any (ltb size (length (reportTexts ls))) Short _ (omega arith) λ a. tt) e in
         tells r (omega arith)
-    go (refused q) oe e = let l = refusal-is-16 s r (oe ∙ e) .1 .1 in tells r (omega arith)
+    go (refused q) oe e =
+        let k : q ≡ r = cc in
+        let l = refusal-is-16 s r (oe ∙ ap refused k) .2 in
+        tells r (omega arith)
