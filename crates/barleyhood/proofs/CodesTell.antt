@@ -15,8 +15,8 @@ use Rattle.rules.specs.Places as places
 use Rattle.rules.specs.Places.{sourceStart, deliveryStart, sourcePlace, deliveryPlace, labelPlaces, labelling}
 use Rattle.rules.specs.Reading.{reading}
 use Rattle.rules.specs.Refusals.{Outcome, accepted, refused, refuse, andThen, numberOf, placeOf}
-use Rattle.rules.specs.Hour.{Progress, reconstructed}
-use Rattle.rules.specs.Report.{ReportLine, report, reportTexts, hourLines}
+use Rattle.rules.specs.Hour.{reconstructed}
+use Rattle.rules.specs.Report.{report, reportTexts, hourLines}
 use Rattle.rules.specs.Spreadsheet.{fileLines, fileText}
 use Rattle.rules.specs.Words.{if_then_else_, listTo}
 use Rattle.rules.specs.declared.Hour.{Hour}

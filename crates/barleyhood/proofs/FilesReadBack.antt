@@ -1,6 +1,5 @@
 -- The file that a call gave, lent to the call that reads files, comes back as the report of the same hour: the same answer and the same lent bytes as the
 -- report's own call gives, whatever is lent. So nothing of a report is lost in its file, and no two reports have one file.
-use mathlib.Core.Bool.{true}
 use mathlib.Core.List.{List, _++_}
 use mathlib.Core.Path.{_≡_, sym, ap, _∙_}
 use Prim.Native.Nat.{ℕ}

@@ -14,7 +14,7 @@ use lib.ListN.{length, getD, drop}
 use lib.Seq.{getD-append-add}
 use Rattle.rules.specs.Answers.{writtenOf}
 use Rattle.rules.specs.Calls as calls
-use Rattle.rules.specs.Calls.{deckSpreadsheet, spreadsheetLines, fileFor, leaves}
+use Rattle.rules.specs.Calls.{deckSpreadsheet, spreadsheetLines, leaves}
 use Rattle.rules.specs.Places as places
 use Rattle.rules.specs.Places.{sourcePlace, deliveryPlace, labelPlaces, labelling}
 use Rattle.rules.specs.Reading.{reading}
@@ -23,7 +23,6 @@ use Rattle.rules.specs.Words.{listTo}
 use Rattle.rules.specs.declared.Hour.{Hour}
 use Rattle.rules.specs.declared.Refusal.the-variants.{Short}
 use Rattle.rules.specs.declared.Written.{Written}
-use Rattle.rules.specs.Writing.{valid}
 use Rattle.rules.specs.declared.Verdict.the-variants.{Accepted}
 use Rattle.laws.specs.Sums.{listTo-length, listTo-read}
 use Rattle.roundtrip.specs.DeckRoundTrip.{accepted-is-valid}
