@@ -10,14 +10,14 @@ ghost use Rattle.rules.specs.Refusals.{numberOf, placeOf};
 ghost use Rattle.rules.specs.Hour.{pairWidth, openWidth, cellCount, answer};
 ghost use Rattle.rules.specs.Report.{refusal, report};
 ghost use Rattle.rules.specs.Writing.{valid};
-ghost use Rattle.rules.specs.Calls.{reporting, leaves};
+ghost use Rattle.rules.specs.Calls.{into, reporting, leaves};
 ghost use Rattle.sequence.specs.Placings.{placings};
 ghost use Rattle.write_fields.specs.Inked.{Room, Inked, upTo};
 ghost use Rattle.print_lines.specs.Lines.{printed};
 ghost use Rattle.hour_lines.specs.LineAmounts.{SmallFirst};
 ghost use Rattle.print_report.specs.Rows.{Held, ShortLabels, rowText, rowAt, openAt};
 ghost use Rattle.print_report.specs.HourRows.{Answered};
-ghost use Rattle.print_report.specs.Printing.{ReadDeck, handed};
+ghost use Rattle.print_report.specs.Printing.{ReadDeck};
 ghost use Rattle.hour_lines.specs.HourRun.{Ended};
 use deck::Place;
 use deck::ScannedDeck;
@@ -236,8 +236,8 @@ fn hour_length(deck: &[u8], x: ScannedDeck, keys: [Key; 32], cells: &[i64]) -> u
 
 // A refusal's line into a lent buffer: nothing changed where that is too short.
 fn hand_refusal(out: &mut [u8], x: Refusal) -> Written
-    ensures outcome { λ r. ⌜ r ≡ writtenOf (handed (printed (refusal (numberOf x) (placeOf x)) []) (length (now (out .entry)))) ⌝ }
-    ensures bytes { λ _. ⌜ now (out .exit) ≡ leaves (handed (printed (refusal (numberOf x) (placeOf x)) []) (length (now (out .entry)))) (now (out .entry)) ⌝ }
+    ensures outcome { λ r. ⌜ r ≡ writtenOf (into (length (now (out .entry))) (printed (refusal (numberOf x) (placeOf x)) [])) ⌝ }
+    ensures bytes { λ _. ⌜ now (out .exit) ≡ leaves (into (length (now (out .entry))) (printed (refusal (numberOf x) (placeOf x)) [])) (now (out .entry)) ⌝ }
 {
     if out.len() < print_lines::refusal_length(x) {
         return Written::Refused(Refusal::Short);

@@ -15,7 +15,8 @@ use Rattle.roundtrip.specs.GivenHour.{accepted-given}
 use Rattle.reconstruct.specs.WholeAnswer.{placeable}
 use Rattle.balance.specs.CellsAreFew.{mostCells, count-few}
 use Rattle.print_lines.specs.Lines.{printed}
-use Rattle.print_report.specs.Printing.{scanned-refused, scanned-accepted, read-deck, refused-report, told-as}
+use Rattle.hour_lines.specs.HandedOver.{told-as}
+use Rattle.print_report.specs.Printing.{scanned-refused, scanned-accepted, read-deck, refused-report, reported}
 use Rattle.print_report.proofs.report.Statement.{statement}
 use Rattle.print_report.proofs.report.Tie as tie
 
@@ -39,7 +40,7 @@ returns c =
     let s = scan .before .before .before in
     let r = verdict .verdict .given .0 .0 in
     let refused = scanned-refused (s .args .deck .now) (scan .scan .result) (scan .scan .ensures) r (verdict .verdict .given .1) in
-    told-as (s .args .deck .now) (s .args .out .now) (printed (refusal (numberOf r) (placeOf r)) []) (refused-report (s .args .deck .now) r refused) (hand-refusal .hand-refusal .ensures)
+    told-as (s .args .out .now) (reported (s .args .deck .now) _ _ (refused-report (s .args .deck .now) r refused)) (hand-refusal .hand-refusal .ensures)
 
 enum-told : tie.Need-enum-told
 enum-told c = search needs
