@@ -1,11 +1,7 @@
 -- `print_report::print_answer` meets its contract. The line of 12 or 13 where that was met, or else the hour's lines; where the buffer holds any report, their length is not found.
 use borrow.Author.Needs.{needs}
-use mathlib.Core.List.{[]}
 use mathlib.Core.Path.{sym, _∙_}
 use native.Mathlib.Omega.{arith}
-use Rattle.rules.specs.Refusals.{numberOf, placeOf}
-use Rattle.rules.specs.Report.{refusal}
-use Rattle.print_lines.specs.Lines.{printed}
 use Rattle.print_report.specs.ReportFits.{report-fits}
 use Rattle.hour_lines.specs.HourRun.{run-refused, run-done}
 use Rattle.hour_lines.specs.HandedOver.{told-as}
