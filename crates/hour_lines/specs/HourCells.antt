@@ -21,11 +21,18 @@ use Rattle.balance.specs.AnswerCells.{cellAt, pairPlace, openPlace, pair-cell, 
 use Rattle.balance.specs.CellsAreFew.{cells-few}
 use Rattle.balance.specs.CellsFit.{SmallCell, answer-small}
 use Rattle.balance.specs.ValidHour.{valid-balances, valid-small}
-use Rattle.hour_lines.specs.LineAmounts.{SmallFirst, pairFrom, openFrom, SmallAmounts, pair-amounts-small, open-amounts-small}
+use Rattle.hour_lines.specs.LineAmounts.{SmallFirst, fewer-small, pairFrom, openFrom, SmallAmounts, pair-amounts-small, open-amounts-small}
 
 -- one row of the cells of m
 pub row-within : (j m w : ℕ) → j < m → j * w + w ≤ m * w
 row-within j m w h = let k : j + 1 ≤ m = omega arith in omega (arith, mul-le-mul-right w k)
+
+pub row-small : (cells : List ℤ) (j m w : ℕ) → j < m → SmallFirst cells (m * w) → SmallFirst cells (j * w + w)
+row-small cells j m w h = fewer-small (j * w + w) (row-within j m w h)
+
+-- the cells of i and those before it, of n that have w each from a place on
+pub part-small : (cells : List ℤ) (base i n w : ℕ) → i < n → SmallFirst cells (base + n * w) → SmallFirst cells (base + i * w + w)
+part-small cells base i n w h = fewer-small (base + i * w + w) (omega (arith, row-within i n w h))
 
 module _ (h : Hour) (p : Progress) (v : valid h ≡ true) (run : reconstructed h ≡ accepted p) where
   -- all cells are small
@@ -71,7 +78,7 @@ module _ {h : Hour} {ks : List Key} {cells : List ℤ} (a : Answered h ks cells)
   small = record { there = enough; small = λ k l. let e = cell-is k l in rw e (small-cells h p (a .valid) (a .run) k) }
 
   pub pairs-small : SmallFirst cells (h .ndeliveries * (h .nsources * pairWidth))
-  pairs-small = record { there = omega (arith, enough); small = λ k l. small .small k (omega arith) }
+  pairs-small = fewer-small (h .ndeliveries * (h .nsources * pairWidth)) (omega arith) small
 
   -- where the open lines' cells begin
   pub base-fits : h .ndeliveries * (h .nsources * pairWidth) ≤ 32 * (32 * pairWidth)

@@ -23,6 +23,10 @@ pub record SmallFirst (cells : List ℤ) (n : ℕ) : Type 0 where
   pub there : n ≤ length cells
   pub small : (k : ℕ) → k < n → SmallCell (cellAt cells k)
 
+-- and so are fewer
+pub fewer-small : {cells : List ℤ} {n : ℕ} (k : ℕ) → k ≤ n → SmallFirst cells n → SmallFirst cells k
+fewer-small k h s = record { there = omega (arith, s .there); small = λ i l. s .small i (omega arith) }
+
 -- the cells from a place on, item by item: a pair's, and a source's open ones
 abbrev pub pairFrom : List ℤ → ℕ → Item → ℤ
 pairFrom cells k x = cellAt cells (k + itemPlace x)

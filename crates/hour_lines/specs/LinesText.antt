@@ -1,7 +1,7 @@
 -- The lines of an hour one after another, each by a text of its own: a report's, or a file's.
-use mathlib.Core.Path.{_≡_, refl, ap, _∙_}
+use mathlib.Core.Path.{_≡_, refl, ap, sym, _∙_}
 use mathlib.Core.List.{List, [], _∷_, _++_}
-use Prim.Native.Nat.{ℕ, zero, suc}
+use Prim.Native.Nat.{ℕ, zero, suc, _<_}
 use Rattle.rules.specs.Words as words
 use Rattle.rules.specs.Words.{listTo}
 use Rattle.rules.specs.Hour.{Progress}
@@ -62,3 +62,14 @@ module _ (f : ReportLine → Text) where
         let rows : linesText f a last ≡ upTo pairsText (h .ndeliveries) last =
         lines-upTo pairs (h .ndeliveries) last ∙ upTo-same (λ j. linesText f (pairs j)) pairsText (h .ndeliveries) (λ j l w. pairs-text j w) last in
         ap (f (headerLine h)) (lines-append a (opens ++ (end ∷ [])) rest ∙ ap (linesText f a) inner ∙ rows)
+
+    -- the lines as they are written, row by row, where each of them is the hour's
+    pub lines-made : (rows : ℕ → ℕ → Text) (left : ℕ → Text)
+        → ((j i : ℕ) → j < h .ndeliveries → i < h .nsources → (rest : List ℕ) → rows j i rest ≡ f (pairLine h p j i) rest)
+        → ((i : ℕ) → i < h .nsources → (rest : List ℕ) → left i rest ≡ f (openLine h p i) rest)
+        → (rest : List ℕ) → f (headerLine h) (upTo (λ j. upTo (rows j) (h .nsources)) (h .ndeliveries) (upTo left (h .nsources) (f end rest))) ≡ linesText f (hourLines h p) rest
+    lines-made rows left pairs-same opens-same rest =
+        let written : Text = upTo (λ j. upTo (rows j) (h .nsources)) (h .ndeliveries) in
+        let inner = upTo-same left (λ i. f (openLine h p i)) (h .nsources) opens-same (f end rest) in
+        let outer = upTo-same (λ j. upTo (rows j) (h .nsources)) pairsText (h .ndeliveries) (λ j l. upTo-same (rows j) (λ i. f (pairLine h p j i)) (h .nsources) (λ i m. pairs-same j i l m)) (opensText (f end rest)) in
+        ap (λ (w : List ℕ). f (headerLine h) (written w)) inner ∙ ap (f (headerLine h)) outer ∙ sym (hour-lines rest)

@@ -1,13 +1,37 @@
-// The amounts of a report's lines: the header's of an hour's sums, a pair's and a source's of its cells.
-// The contracts cite rules' Report, and LineAmounts for the cells from a place on.
+// The cells of an hour, and the amounts of its lines: the header's of the hour's sums, a pair's and a source's of the cells.
+// The contracts cite rules' Hour, Calls and Report, and LineAmounts for the cells from a place on.
 ghost use mathlib.Core.Path.{_≡_};
+ghost use mathlib.Core.Bool.{true};
 ghost use Prim.Native.Nat.{_+_, _≤_};
 ghost use lib.IntN.{_+ℤ_};
-ghost use Rattle.rules.specs.Hour.{pairWidth, openWidth};
+ghost use lib.ListN.{length};
+ghost use Rattle.rules.specs.Answers.{writtenOf};
+ghost use Rattle.rules.specs.Hour.{pairWidth, openWidth, cellCount, answer};
 ghost use Rattle.rules.specs.Report.{hourAmounts, pairAmounts, openAmounts};
+ghost use Rattle.rules.specs.Writing.{valid};
+ghost use Rattle.rules.specs.Calls.{leaves};
 ghost use Rattle.balance.specs.CellsFit.{SmallCell};
+ghost use Rattle.sequence.specs.Placings.{placings};
 ghost use Rattle.hour_lines.specs.LineAmounts.{SmallFirst, pairFrom, openFrom};
+use moves::PAIR_CELLS;
 use reconstruct::OPEN_CELLS;
+use rules::Hour;
+use rules::Key;
+use rules::Written;
+
+// As many cells as an hour has at most, and as many as a small one may have.
+pub const MOST_CELLS: usize = 32 * (32 * PAIR_CELLS) + 32 * OPEN_CELLS;
+
+pub const FEW_CELLS: usize = 512;
+
+// The cells of a valid hour, whose deliveries have these keys.
+pub fn fill_cells(h: Hour, keys: [Key; 32], cells: &mut [i64]) -> Written
+    requires { ⌜ (valid h ≡ true) × (keys ≡ placings (h .deliveries) (h .ndeliveries)) × (cellCount h ≤ length (now cells)) ⌝ }
+    ensures outcome { λ r. ⌜ r ≡ writtenOf (answer h) ⌝ }
+    ensures cells { λ _. ⌜ now (cells .exit) ≡ leaves (answer h) (now (cells .entry)) ⌝ }
+{
+    reconstruct::fill(h, keys, true, cells)
+}
 
 // How many amounts each line has.
 pub const HOUR_AMOUNTS: usize = 4;

@@ -1,10 +1,10 @@
 -- What the writer of an hour's report is given, and that the rows it writes are the report.
-use mathlib.Core.Path.{_≡_, refl, ap, sym, _∙_}
-use mathlib.Core.List.{List, [], _∷_, _++_}
-use Prim.Native.Nat.{ℕ, _+_, _*_, _≤_, _<_}
+use mathlib.Core.Path.{_≡_, refl, ap, _∙_}
+use mathlib.Core.List.{List, [], _∷_}
+use Prim.Native.Nat.{ℕ, _+_, _*_, _<_}
 use native.Mathlib.Omega.{arith}
 use lib.IntN.{ℤ, pos}
-use lib.ListN.{length, getD, drop}
+use lib.ListN.{length, getD}
 use borrow.Author.Tests.{lt-ltb}
 use Rattle.rules.specs.Words.{text}
 use Rattle.rules.specs.Refusals.{accepted}
@@ -21,22 +21,14 @@ use Rattle.rules.specs.declared.InternalSequence.{InternalSequence}
 use Rattle.rules.specs.declared.Key.{Key}
 use Rattle.deck.specs.Answers.{Scanned}
 use Rattle.deck.specs.declared.ScannedDeck.{ScannedDeck}
-use Rattle.write_fields.specs.Inked.{Text, Room, Inked, Front, inked-place, inked-first, upTo, upTo-same, front-upTo}
+use Rattle.write_fields.specs.Inked.{Text, Front, upTo, front-upTo}
 use Rattle.print_lines.specs.Lines.{headText, lineText, printed, pair-line, open-line, front-printed}
 use Rattle.hour_lines.specs.LinesText as linesTexts
-use Rattle.hour_lines.specs.LinesText.{linesText, pairsText, opensText, hourText, hour-lines}
+use Rattle.hour_lines.specs.LinesText.{linesText, lines-made}
 use Rattle.hour_lines.specs.HourLabels.{label-short, hour-labels}
 use Rattle.hour_lines.specs.HourCells as hourCells
 use Rattle.hour_lines.specs.HourCells.{pairs-are, opens-are}
 use Rattle.print_report.specs.Rows.{Held, ShortLabels, partAt, headAt, pairAt, rowAt, openAt, front-row-at, front-opens, line-same}
-
--- a text that is known has room from 0 on where it fits, and written there it stands at the start
-module _ (f : Text) (w buf : List ℕ) (same : f [] ≡ w) (fits : length w ≤ length buf) where
-  pub whole-room : Room buf 0 (f [])
-  whole-room = record { fits = omega (arith, ap length same) }
-
-  pub whole-written : (b : List ℕ) (n : ℕ) → Inked buf 0 b n f → (n ≡ length w) × (b ≡ w ++ drop (length w) buf)
-  whole-written b n e = (omega (arith, inked-place e, ap length same), inked-first e whole-room ∙ ap (λ (w : List ℕ). w ++ drop (length w) buf) same)
 
 -- a deck that was scanned, and its hour's keys and cells
 pub record Answered (deck : List ℕ) (x : ScannedDeck) (ks : List Key) (cells : List ℤ) : Type 0 where
@@ -109,18 +101,12 @@ module _ {deck : List ℕ} {x : ScannedDeck} {ks : List Key} {cells : List ℤ} 
       line-same (text "internal \"") (source-part i m) (ap openAmounts (opens-are (a .hour) i m)) rest
       ∙ open-line (chars (sourceAt h i .label)) (openAmounts λ item. pos (openAmount item (getD (p .states) i noRunning))) rest
 
-  hour-written : (rest : List ℕ) → writtenText deck x ks cells rest ≡ hourText printed h p rest
-  hour-written rest =
-      ap (λ (w : List ℕ). printed (headerLine h) (rowsText deck x ks cells w))
-      (upTo-same (openAt deck (x .sources) cells (h .ndeliveries * (h .nsources * pairWidth))) (λ i. printed (openLine h p i)) (h .nsources) open-written (printed end rest))
-      ∙ ap (printed (headerLine h))
-      (upTo-same (rowAt deck (x .sources) (h .nsources) (x .deliveries) ks cells) (pairsText printed h p) (h .ndeliveries)
-      (λ j l. upTo-same (pairAt deck (x .sources) cells (j * (h .nsources * pairWidth)) (headAt deck (x .deliveries) ks j)) (λ i. printed (pairLine h p j i)) (h .nsources) (λ i m. pair-written j i l m))
-      (opensText printed h p (printed end rest)))
-
   pub report-is : writtenText deck x ks cells [] ≡ report deck
   unfolding reports.report reports.reportLines
-  report-is = hour-written [] ∙ sym (hour-lines printed h p []) ∙ printed-all (hourLines h p) ∙ rw (a .read, a .hour .run)
+  report-is =
+      let pairs : ℕ → ℕ → Text = λ j. pairAt deck (x .sources) cells (j * (h .nsources * pairWidth)) (headAt deck (x .deliveries) ks j) in
+      let opens = openAt deck (x .sources) cells (h .ndeliveries * (h .nsources * pairWidth)) in
+      lines-made printed h p pairs opens pair-written open-written [] ∙ printed-all (hourLines h p) ∙ rw (a .read, a .hour .run)
 
   -- its length, part by part
   pub report-length : length (printed (headerLine h) []) + length (rowsText deck x ks cells []) + length (leftText deck x cells []) + length (printed end []) ≡ length (report deck)

@@ -1,26 +1,23 @@
 -- What a scan and a reconstruction tell of a deck's report, and what printing it comes to.
-use mathlib.Core.Path.{_≡_, refl, ap, sym, _∙_}
+use mathlib.Core.Path.{_≡_, ap, sym}
 use mathlib.Core.List.{List, [], _++_}
 use Prim.Native.Nat.{ℕ, _≤_, _<_}
 use native.Mathlib.Omega.{arith}
 use lib.IntN.{ℤ}
-use lib.Dec.{ltb}
 use lib.ListN.{length, drop}
-use borrow.Author.Tests.{le-ltb, lt-ltb}
-use Rattle.rules.specs.Refusals.{Outcome, accepted, refused, refuse, numberOf, placeOf}
+use Rattle.rules.specs.Refusals.{accepted, refused, numberOf, placeOf}
 use Rattle.rules.specs.Hour.{reconstructed, answer}
 use Rattle.rules.specs.Reading.{reading}
 use Rattle.rules.specs.Report as reports
 use Rattle.rules.specs.Report.{refusal, report}
 use Rattle.rules.specs.Calls as calls
-use Rattle.rules.specs.Calls.{reporting, leaves}
+use Rattle.rules.specs.Calls.{into, reporting, leaves}
 use Rattle.rules.specs.declared.Hour.{Hour}
 use Rattle.rules.specs.declared.Key.{Key}
 use Rattle.rules.specs.declared.Refusal.{Refusal}
 use Rattle.rules.specs.Answers.{writtenOf}
 use Rattle.rules.specs.declared.Refusal.the-variants.{Short}
 use Rattle.rules.specs.declared.Verdict.the-variants.{Accepted, Refused}
-use Rattle.rules.specs.declared.Written.{Written}
 use Rattle.rules.specs.declared.Written.the-variants.{Count, Refused as NotWritten}
 use Rattle.deck.specs.Answers.{read-accepted, read-refused, Scanned}
 use Rattle.deck.specs.declared.ScannedDeck.{ScannedDeck}
@@ -28,6 +25,7 @@ use Rattle.sequence.specs.Placings.{placings}
 use Rattle.print_lines.specs.Lines.{printed}
 use Rattle.roundtrip.specs.DeckRoundTrip.{accepted-is-valid}
 use Rattle.hour_lines.specs.HourRun.{Run, run-cells}
+use Rattle.hour_lines.specs.HandedOver.{into-short, into-whole}
 use Rattle.print_report.specs.HourRows.{Answered}
 
 -- What was scanned.
@@ -65,40 +63,18 @@ module _ (deck : List ℕ) (r : Refusal) where
   unfolding reports.report reports.reportLines reports.reportTexts
   unmet-report h e f = rw (e, f)
 
--- What a text and the lent buffer come to.
+-- What a text that is the report comes to.
 
--- a text handed over into a buffer of so many bytes
-unfoldable pub handed : List ℕ → ℕ → Outcome (List ℕ)
-handed w size =
-    refuse (ltb size (length w)) Short
-    (accepted w)
-
-pub handed-report : (deck w : List ℕ) (size : ℕ) → w ≡ report deck → handed w size ≡ reporting deck size
-unfolding handed calls.reporting
-handed-report deck w size e = rw e
-
-module _ (w out : List ℕ) where
-  pub handed-short : length out < length w → (NotWritten Short ≡ writtenOf (handed w (length out))) × (out ≡ leaves (handed w (length out)) out)
-  unfolding handed
-  handed-short l = let f = lt-ltb (length out) (length w) l in (rw f, rw f)
-
-  pub handed-whole : (n : ℕ) (after : List ℕ) → length w ≤ length out → n ≡ length w → after ≡ w ++ drop (length w) out
-      → (Count n ≡ writtenOf (handed w (length out))) × (after ≡ leaves (handed w (length out)) out)
-  unfolding handed
-  handed-whole n after l e d = let f = le-ltb (length out) (length w) l in (rw (f, e), rw f d)
-
--- the same of a deck's report
-module _ (deck out w : List ℕ) (e : w ≡ report deck) where
-  pub told-as : {r : Written} {after : List ℕ} → (r ≡ writtenOf (handed w (length out))) × (after ≡ leaves (handed w (length out)) out)
-      → (r ≡ writtenOf (reporting deck (length out))) × (after ≡ leaves (reporting deck (length out)) out)
-  told-as t =
-      let same = handed-report deck w (length out) e in
-      (t .0 ∙ ap writtenOf same, t .1 ∙ ap (λ (o : Outcome (List ℕ)). leaves o out) same)
+pub reported : (deck w : List ℕ) (size : ℕ) → w ≡ report deck → into size w ≡ reporting deck size
+unfolding calls.reporting
+reported deck w size e = ap (into size) e
 
 pub report-short : (deck out : List ℕ) (n : ℕ) → n ≡ length (report deck) → length out < n
     → (NotWritten Short ≡ writtenOf (reporting deck (length out))) × (out ≡ leaves (reporting deck (length out)) out)
-report-short deck out n e l = told-as deck out (report deck) refl (handed-short (report deck) out (omega arith))
+unfolding calls.reporting
+report-short deck out n e l = into-short (report deck) out (omega arith)
 
 pub report-whole : (deck out after : List ℕ) (n : ℕ) → length (report deck) ≤ length out → n ≡ length (report deck) → after ≡ report deck ++ drop (length (report deck)) out
     → (Count n ≡ writtenOf (reporting deck (length out))) × (after ≡ leaves (reporting deck (length out)) out)
-report-whole deck out after n l e d = told-as deck out (report deck) refl (handed-whole (report deck) out n after l e d)
+unfolding calls.reporting
+report-whole deck out after n l e d = into-whole (report deck) out n after l e d

@@ -1,10 +1,9 @@
 -- The report's rows as they are written: labels as parts of the deck, amounts as cells.
 use mathlib.Core.Path.{_≡_, ap, _∙_}
 use mathlib.Core.List.{List, [], _∷_, _++_}
-use Prim.Native.Nat.{ℕ, _+_, _-_, _*_, _≤_, _<_}
+use Prim.Native.Nat.{ℕ, _+_, _*_, _≤_, _<_}
 use native.Mathlib.Omega.{arith}
-use lib.ListN.{length, getD, take, drop, length-append}
-use lib.Seq.{take-append-seam}
+use lib.ListN.{length, getD, length-append}
 use lib.IntN.{ℤ}
 use Rattle.rules.specs.Words.{text}
 use Rattle.rules.specs.Fields.{digits}
@@ -14,11 +13,10 @@ use Rattle.rules.specs.declared.InternalSequence.{InternalSequence}
 use Rattle.rules.specs.declared.Key.{Key}
 use Rattle.deck.specs.Answers.{nowhere, bytesOf}
 use Rattle.deck.specs.declared.Place.{Place}
-use Rattle.write_fields.specs.Inked.{Text, Room, Inked, Front, inked-place, inked-first, upTo, front-upTo}
+use Rattle.write_fields.specs.Inked.{Text, Room, Front, upTo, front-upTo}
 use Rattle.write_fields.specs.Lengths.{digits-few}
 use Rattle.print_lines.specs.Lines.{headText, lineText, openText, front-line}
-use Rattle.hour_lines.specs.LineAmounts.{SmallFirst, pairFrom, openFrom}
-use Rattle.hour_lines.specs.HourCells.{row-within}
+use Rattle.hour_lines.specs.LineAmounts.{pairFrom, openFrom}
 
 -- each place lies in the deck
 pub record Held (deck : List ℕ) (ps : List Place) : Type 0 where
@@ -67,17 +65,6 @@ front-opens deck sources cells base n = front-upTo (openAt deck sources cells ba
 pub line-same : (head : List ℕ) {s t : List ℕ} {ys zs : List ℤ} → s ≡ t → ys ≡ zs → (rest : List ℕ) → lineText head s ys rest ≡ lineText head t zs rest
 line-same head a b rest = rw (a, b)
 
-pub row-small : (cells : List ℤ) (j m w : ℕ) → j < m → SmallFirst cells (m * w) → SmallFirst cells (j * w + w)
-row-small cells j m w h s =
-    let k = row-within j m w h in
-    record { there = omega (arith, s .there); small = λ i l. s .small i (omega arith) }
-
--- the cells of i and those before it, of n that have w each
-pub part-small : (cells : List ℤ) (base i n w : ℕ) → i < n → SmallFirst cells (base + n * w) → SmallFirst cells (base + i * w + w)
-part-small cells base i n w h s =
-    let k = row-within i n w h in
-    record { there = omega (arith, s .there); small = λ i l. s .small i (omega arith) }
-
 -- What the lines of a delivery begin with.
 
 -- the first n labels have at most as many bytes as any label
@@ -98,13 +85,6 @@ head-room deck deliveries m part number buf j l s e f =
         length-append (digits (number .0)) (32 ∷ 34 ∷ []),
       );
     }
-
--- its bytes in the buffer that they were written into
-pub head-bytes : (part : List ℕ) (number : InternalSequence) (a b : List ℕ) (k : ℕ) → Room a 0 (headText part number []) → Inked a 0 b k (headText part number) → take (k - 0) (drop 0 b) ≡ headText part number []
-head-bytes part number a b k r i =
-    let w = headText part number [] in
-    let n : k - 0 ≡ length w = omega (arith, inked-place i) in
-    ap (λ (m : ℕ). take m b) n ∙ ap (take (length w)) (inked-first i r) ∙ take-append-seam w (drop (length w) a)
 
 -- Rows of what was made: heads that were written, and parts that were cut.
 

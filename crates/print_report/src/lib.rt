@@ -1,38 +1,31 @@
 // The report of a deck as text, line by line straight into a lent buffer: its length is found first where the buffer may be too short for it.
 // Contracts cite Room and Inked of write_fields, the rows of specs/Rows and their amounts in LineAmounts of hour_lines, and report, reporting and leaves of rules.
 ghost use mathlib.Core.Path.{_≡_};
-ghost use mathlib.Core.Bool.{true};
 ghost use mathlib.Core.List.{[], _++_};
 ghost use Prim.Native.Nat.{_+_, _*_, _^_, _≤_, _<_};
 ghost use lib.ListN.{length, drop};
 ghost use Rattle.rules.specs.Answers.{writtenOf};
 ghost use Rattle.rules.specs.Refusals.{numberOf, placeOf};
-ghost use Rattle.rules.specs.Hour.{pairWidth, openWidth, cellCount, answer};
+ghost use Rattle.rules.specs.Hour.{pairWidth, openWidth};
 ghost use Rattle.rules.specs.Report.{refusal, report};
-ghost use Rattle.rules.specs.Writing.{valid};
-ghost use Rattle.rules.specs.Calls.{reporting, leaves};
-ghost use Rattle.sequence.specs.Placings.{placings};
+ghost use Rattle.rules.specs.Calls.{into, reporting, leaves};
 ghost use Rattle.write_fields.specs.Inked.{Room, Inked, upTo};
 ghost use Rattle.print_lines.specs.Lines.{printed};
 ghost use Rattle.hour_lines.specs.LineAmounts.{SmallFirst};
 ghost use Rattle.print_report.specs.Rows.{Held, ShortLabels, rowText, rowAt, openAt};
 ghost use Rattle.print_report.specs.HourRows.{Answered};
-ghost use Rattle.print_report.specs.Printing.{ReadDeck, handed};
+ghost use Rattle.print_report.specs.Printing.{ReadDeck};
 ghost use Rattle.hour_lines.specs.HourRun.{Ended};
 use deck::Place;
 use deck::ScannedDeck;
+use hour_lines::FEW_CELLS;
+use hour_lines::MOST_CELLS;
 use moves::PAIR_CELLS;
 use reconstruct::OPEN_CELLS;
-use rules::Hour;
 use rules::Key;
 use rules::Refusal;
 use rules::Verdict;
 use rules::Written;
-
-// As many cells as an hour has at most, and as many as a small one may have.
-const MOST_CELLS: usize = 32 * (32 * PAIR_CELLS) + 32 * OPEN_CELLS;
-
-const FEW_CELLS: usize = 512;
 
 // Room for what all lines of a delivery begin with.
 const MOST_HEAD: usize = 64;
@@ -236,8 +229,8 @@ fn hour_length(deck: &[u8], x: ScannedDeck, keys: [Key; 32], cells: &[i64]) -> u
 
 // A refusal's line into a lent buffer: nothing changed where that is too short.
 fn hand_refusal(out: &mut [u8], x: Refusal) -> Written
-    ensures outcome { λ r. ⌜ r ≡ writtenOf (handed (printed (refusal (numberOf x) (placeOf x)) []) (length (now (out .entry)))) ⌝ }
-    ensures bytes { λ _. ⌜ now (out .exit) ≡ leaves (handed (printed (refusal (numberOf x) (placeOf x)) []) (length (now (out .entry)))) (now (out .entry)) ⌝ }
+    ensures outcome { λ r. ⌜ r ≡ writtenOf (into (length (now (out .entry))) (printed (refusal (numberOf x) (placeOf x)) [])) ⌝ }
+    ensures bytes { λ _. ⌜ now (out .exit) ≡ leaves (into (length (now (out .entry))) (printed (refusal (numberOf x) (placeOf x)) [])) (now (out .entry)) ⌝ }
 {
     if out.len() < print_lines::refusal_length(x) {
         return Written::Refused(Refusal::Short);
@@ -255,15 +248,6 @@ fn hand_hour(out: &mut [u8], deck: &[u8], x: ScannedDeck, keys: [Key; 32], cells
         return Written::Refused(Refusal::Short);
     }
     Written::Count(put_hour(out, deck, x, keys, cells))
-}
-
-// The cells of a valid hour, whose deliveries have these keys.
-fn fill_cells(h: Hour, keys: [Key; 32], cells: &mut [i64]) -> Written
-    requires { ⌜ (valid h ≡ true) × (keys ≡ placings (h .deliveries) (h .ndeliveries)) × (cellCount h ≤ length (now cells)) ⌝ }
-    ensures outcome { λ r. ⌜ r ≡ writtenOf (answer h) ⌝ }
-    ensures cells { λ _. ⌜ now (cells .exit) ≡ leaves (answer h) (now (cells .entry)) ⌝ }
-{
-    reconstruct::fill(h, keys, true, cells)
 }
 
 // The report of a deck that was read, of what its reconstruction answered and left in the cells.
@@ -304,10 +288,10 @@ pub fn report(deck: &[u8], out: &mut [u8]) -> Written
     let count = h.ndeliveries * (h.nsources * PAIR_CELLS) + h.nsources * OPEN_CELLS;
     if count <= FEW_CELLS {
         let mut cells = [0i64; FEW_CELLS];
-        let end = fill_cells(h, keys, &mut cells);
+        let end = hour_lines::fill_cells(h, keys, &mut cells);
         return print_answer(out, deck, x, keys, end, &cells);
     }
     let mut cells = [0i64; MOST_CELLS];
-    let end = fill_cells(h, keys, &mut cells);
+    let end = hour_lines::fill_cells(h, keys, &mut cells);
     print_answer(out, deck, x, keys, end, &cells)
 }

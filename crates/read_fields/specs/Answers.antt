@@ -1,11 +1,16 @@
 -- What the readers answer where the rules find a field: each number is cut at 1,000,000, which is above every range.
+use mathlib.Core.Path.{_≡_}
+use mathlib.Core.List.{List}
 use mathlib.Core.Option.{Option, none, some}
-use Prim.Native.Nat.{ℕ, min}
-use Rattle.rules.specs.Fields.{Field, got, malformed, Place}
+use Prim.Native.Nat.{ℕ, _≤_, min}
+use lib.ListN.{drop}
+use Rattle.rules.specs.Fields.{Field, got, malformed, run, Place}
 use Rattle.rules.specs.declared.Basis.{Basis}
 use Rattle.rules.specs.declared.Basis.the-variants.{Low, Generation, Mwh}
 use Rattle.read_fields.specs.declared.Step.{Step}
 use Rattle.read_fields.specs.declared.Step.the-variants.{At, Missing}
+use Rattle.read_fields.specs.declared.FirstDigit.{FirstDigit}
+use Rattle.read_fields.specs.declared.FirstDigit.the-variants.{Digit, Malformed as NoDigit}
 use Rattle.read_fields.specs.declared.NumberField.{NumberField}
 use Rattle.read_fields.specs.declared.NumberField.the-variants.{Number, Malformed as NoNumber}
 use Rattle.read_fields.specs.declared.BasisField.{BasisField}
@@ -21,6 +26,11 @@ cut v = min v 1_000_000
 abbrev pub stepOf : Field (Unit {0}) → Step
 stepOf (got u next) = At next
 stepOf malformed = Missing
+
+-- a digit from which all of the number is read on
+abbrev pub DigitOf : List ℕ → Field ℕ → FirstDigit → Type 0
+DigitOf s f (Digit d next) = (d ≤ 9) × (run d next (drop next s) ≡ f)
+DigitOf s f NoDigit = malformed ≡ f
 
 abbrev pub numberField : Field ℕ → NumberField
 numberField (got v next) = Number (cut v) next

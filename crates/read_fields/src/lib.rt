@@ -6,7 +6,7 @@ ghost use Prim.Native.Nat.{_≤_, _<_};
 ghost use lib.ListN.{length, getD, drop};
 ghost use Rattle.rules.specs.Fields.{isDigit, isCharacter, isEscaped, byteAt, run, numberAt, closed as closedAt, labelEnd, unescape, spacedNumber, spacedBasis, basisAt, spacedLabel};
 ghost use Rattle.rules.specs.Record.{labelOf};
-ghost use Rattle.read_fields.specs.Answers.{cut, stepOf, numberField, basisField, endOf, labelField};
+ghost use Rattle.read_fields.specs.Answers.{cut, stepOf, DigitOf, numberField, basisField, endOf, labelField};
 use rules::Basis;
 use rules::Label;
 
@@ -14,6 +14,12 @@ use rules::Label;
 pub enum Step {
     At(usize),
     Missing,
+}
+
+// A number's first digit, as a number, and the place after it.
+pub enum FirstDigit {
+    Digit(u8, usize),
+    Malformed,
 }
 
 // A number, cut at CUT, and the place after it.
@@ -112,22 +118,32 @@ fn run_on(s: &[u8], at: usize, before: u32) -> NumberField
     NumberField::Number(v, i)
 }
 
-// Digits without a leading zero.
-pub fn number(s: &[u8], at: usize) -> NumberField
-    ensures { λ r. ⌜ r ≡ numberField (numberAt (now (s .entry)) at) ⌝ }
+// The first of digits without a leading zero.
+pub fn first_digit(s: &[u8], at: usize) -> FirstDigit
+    ensures { λ r. ⌜ DigitOf (now (s .entry)) (numberAt (now (s .entry)) at) r ⌝ }
 {
     let first = peek(s, at);
     if !is_digit(first) {
-        return NumberField::Malformed;
+        return FirstDigit::Malformed;
     }
     if first == b'0' {
         let second = peek(s, at + 1);
         if is_digit(second) {
-            return NumberField::Malformed;
+            return FirstDigit::Malformed;
         }
-        return NumberField::Number(0, at + 1);
+        return FirstDigit::Digit(0, at + 1);
     }
-    run_on(s, at + 1, wide(first - b'0'))
+    FirstDigit::Digit(first - b'0', at + 1)
+}
+
+// Digits without a leading zero.
+pub fn number(s: &[u8], at: usize) -> NumberField
+    ensures { λ r. ⌜ r ≡ numberField (numberAt (now (s .entry)) at) ⌝ }
+{
+    let FirstDigit::Digit(digit, next) = first_digit(s, at) else {
+        return NumberField::Malformed;
+    };
+    run_on(s, next, wide(digit))
 }
 
 // A space, and a number after it.

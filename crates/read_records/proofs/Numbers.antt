@@ -1,7 +1,7 @@
 -- The steps of reading a number at a place: that cutting its value on the way changes nothing, and its sign.
 use mathlib.Core.Path.{_≡_, refl, ap, sym, _∙_}
 use mathlib.Core.Bool.{Bool, true, false}
-use mathlib.Core.List.{List, [], _∷_}
+use mathlib.Core.List.{List}
 use Prim.Native.Nat.{ℕ, zero, suc, _+_, _-_, _*_, _^_, _<_, _≤_}
 use native.Mathlib.Omega.{arith}
 use lib.Dec.{leb}
@@ -11,25 +11,12 @@ use borrow.Author.Tests.{leb-true, leb-false, lt-ltb, le-ltb, eq-eqb, ne-eqb}
 use mir.Facts.{toZ-pos, toZ-neg, toZ-ofZ}
 use mir.Syntax.{w64}
 use mir.Val.{SFits, toZ, ofZ}
-use Rattle.rules.specs.Words.{if_then_else_}
-use Rattle.rules.specs.Fields as fields
 use Rattle.rules.specs.Fields.{Field, got, malformed, onField, byte, isDigit, run, numberAt}
 use Rattle.rules.specs.Spreadsheet as spreadsheet
 use Rattle.rules.specs.Spreadsheet.{above, below, signedAt}
-use Rattle.read_fields.proofs.Numbers.{run-stop, run-more}
+use Rattle.read_fields.proofs.Numbers.{run-cut, run-stop, run-more}
 use Rattle.read_records.specs.Answers.{cut, numberField}
 use Rattle.read_records.specs.declared.NumberField.the-variants.{Number, Malformed as NoNumber}
-
--- numbers that are cut alike read on alike
-run-cut : (l : List ℕ) (v w i : ℕ) → cut v ≡ cut w → numberField (run v i l) ≡ numberField (run w i l)
-unfolding fields.run
-run-cut [] v w i e = rw e
-run-cut (b ∷ t) v w i e = go (isDigit b) (run-cut t (v * 10 + (b - 48)) (w * 10 + (b - 48)) (suc i) (omega arith))
-  where
-    go : (p : Bool) → numberField (run (v * 10 + (b - 48)) (suc i) t) ≡ numberField (run (w * 10 + (b - 48)) (suc i) t)
-        → numberField (if p then run (v * 10 + (b - 48)) (suc i) t else got v i) ≡ numberField (if p then run (w * 10 + (b - 48)) (suc i) t else got w i)
-    go true ih = ih
-    go false ih = rw e
 
 module _ (s : List ℕ) (at v : ℕ) where
   -- the answer where the digits end, and one digit more
@@ -40,7 +27,7 @@ module _ (s : List ℕ) (at v : ℕ) where
       → numberField (run (cut (v * 10 + (byte s at - 48))) (at + 1) (drop (at + 1) s)) ≡ numberField (run v at (drop at s))
   cut-more d =
       let w = v * 10 + (byte s at - 48) in
-      run-cut (drop (at + 1) s) (cut w) w (at + 1) (omega arith) ∙ ap numberField (sym (run-more s at v d))
+      run-cut numberField 9_223_372_036_854_775_809 (λ v w i e. ap (λ (x : ℕ). Number x i) e) (drop (at + 1) s) (cut w) w (at + 1) (omega arith) ∙ ap numberField (sym (run-more s at v d))
 
 -- Signs.
 

@@ -11,6 +11,7 @@ ghost use Rattle.rules.specs.Record.{labelOf};
 ghost use Rattle.rules.specs.Words.{if_then_else_};
 ghost use Rattle.rules.specs.Spreadsheet.{amountFields, textAt, quoted, labelAt, above as aboveAt, below as belowAt, signedAt, numberFieldAt, numbersAt, lastFieldsAt, hourAt, deliveryAt, internalAt, endAt, recordAt};
 ghost use Rattle.read_records.specs.Answers.{NonZero, passed, cut, numberField, signedField, characterThen, labelField, judged, amountsField, lineOf, fieldOf};
+use read_fields::FirstDigit;
 use read_fields::Step;
 use rules::Label;
 
@@ -137,18 +138,10 @@ fn run_on(s: &[u8], at: usize, before: u64) -> NumberField
 fn number(s: &[u8], at: usize) -> NumberField
     ensures { λ r. ⌜ r ≡ numberField (numberAt (now (s .entry)) at) ⌝ }
 {
-    let first = read_fields::peek(s, at);
-    if !read_fields::is_digit(first) {
+    let FirstDigit::Digit(digit, next) = read_fields::first_digit(s, at) else {
         return NumberField::Malformed;
-    }
-    if first == b'0' {
-        let second = read_fields::peek(s, at + 1);
-        if read_fields::is_digit(second) {
-            return NumberField::Malformed;
-        }
-        return NumberField::Number(0, at + 1);
-    }
-    run_on(s, at + 1, wide(first - b'0'))
+    };
+    run_on(s, next, wide(digit))
 }
 
 const HIGHEST: u64 = 9_223_372_036_854_775_807;

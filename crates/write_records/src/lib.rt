@@ -27,15 +27,15 @@ fn put_character(buf: &mut [u8], at: usize, c: u8) -> usize
 }
 
 // A label's characters.
-fn put_doubled(buf: &mut [u8], at: usize, l: Label) -> usize
-    requires { ⌜ Room (now buf) at (doubled (chars l) []) ⌝ }
-    ensures { λ r. ⌜ Inked (now (buf .entry)) at (now (buf .exit)) r (doubled (chars l)) ⌝ }
+fn put_doubled(buf: &mut [u8], at: usize, label: Label) -> usize
+    requires { ⌜ Room (now buf) at (doubled (chars label) []) ⌝ }
+    ensures { λ r. ⌜ Inked (now (buf .entry)) at (now (buf .exit)) r (doubled (chars label)) ⌝ }
 {
-    let n = write_fields::characters(l);
+    let n = write_fields::characters(label);
     let mut p = at;
     let mut i: usize = 0;
     while i < n {
-        p = put_character(buf, p, l.bytes[i]);
+        p = put_character(buf, p, label.bytes[i]);
         i += 1;
     }
     p

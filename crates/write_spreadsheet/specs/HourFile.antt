@@ -21,10 +21,11 @@ use Rattle.rules.specs.declared.Key.{Key}
 use Rattle.rules.specs.declared.Label.{Label}
 use Rattle.roundtrip.specs.Labels.{label-from}
 use Rattle.record.specs.Fill.{fillTo-made}
-use Rattle.write_fields.specs.Inked.{Text, Room, Inked, Front, inked-place, inked-first, upTo, upTo-same, front-upTo}
+use Rattle.write_fields.specs.Inked.{Text, Room, Inked, Front, upTo, front-upTo}
 use Rattle.write_records.specs.Records.{headText, deliveryText, headerText, delivery-made, front-record, front-header}
 use Rattle.hour_lines.specs.LinesText as linesTexts
-use Rattle.hour_lines.specs.LinesText.{linesText, pairsText, opensText, hourText, hour-lines}
+use Rattle.hour_lines.specs.LinesText.{linesText, lines-made}
+use Rattle.hour_lines.specs.HandedOver.{whole-room, whole-written}
 use Rattle.hour_lines.specs.HourLabels.{hour-labels}
 use Rattle.hour_lines.specs.HourCells.{Answered, given, pairs-are, opens-are}
 use Rattle.write_spreadsheet.specs.Rows.{ShortLabels, sourceLabels, deliveryLabels, headAt, pairAt, rowAt, openAt, front-open-at, front-row-at}
@@ -104,18 +105,12 @@ module _ {h : Hour} {ks : List Key} {cells : List ℤ} (a : Answered h ks cells)
   open-written : (i : ℕ) → i < h .nsources → (rest : List ℕ) → openAt sources cells (h .ndeliveries * (h .nsources * pairWidth)) i rest ≡ recordText (openLine h p i) rest
   open-written i m rest = let s = ap chars (named .source i m) in let zs = ap openAmounts (opens-are a i m) in rw (s, zs)
 
-  hour-written : (rest : List ℕ) → recordText (headerLine h) (rowsText h sources deliveries ks cells (leftText h sources cells (recordText end rest))) ≡ hourText recordText h p rest
-  hour-written rest =
-      ap (λ (w : List ℕ). recordText (headerLine h) (rowsText h sources deliveries ks cells w))
-      (upTo-same (openAt sources cells (h .ndeliveries * (h .nsources * pairWidth))) (λ i. recordText (openLine h p i)) (h .nsources) open-written (recordText end rest))
-      ∙ ap (recordText (headerLine h))
-      (upTo-same (rowAt sources (h .nsources) deliveries ks cells) (pairsText recordText h p) (h .ndeliveries)
-      (λ j l. upTo-same (pairAt sources cells (j * (h .nsources * pairWidth)) (headAt deliveries ks j)) (λ i. recordText (pairLine h p j i)) (h .nsources) (λ i m. pair-written j i l m))
-      (opensText recordText h p (recordText end rest)))
-
   pub file-is : writtenText h sources deliveries ks cells [] ≡ hourFile h
   unfolding sheet.fileText
-  file-is = ap headerText (hour-written [] ∙ sym (hour-lines recordText h p []) ∙ records-all (hourLines h p)) ∙ sym (file-run h p (a .run))
+  file-is =
+      let pairs : ℕ → ℕ → Text = λ j. pairAt sources cells (j * (h .nsources * pairWidth)) (headAt deliveries ks j) in
+      let opens = openAt sources cells (h .ndeliveries * (h .nsources * pairWidth)) in
+      ap headerText (lines-made recordText h p pairs opens pair-written open-written [] ∙ records-all (hourLines h p)) ∙ sym (file-run h p (a .run))
 
   -- its length, part by part
   pub file-length : length (headerText []) + length (recordText (headerLine h) []) + length (rowsText h sources deliveries ks cells []) + length (leftText h sources cells []) + length (recordText end []) ≡ length (hourFile h)
@@ -136,10 +131,10 @@ module _ {h : Hour} {ks : List Key} {cells : List ℤ} (a : Answered h ks cells)
   -- it has room from 0 on where the file fits, and written there it is the file
   module _ (buf : List ℕ) (fits : length (hourFile h) ≤ length buf) where
     pub file-room : Room buf 0 (writtenText h sources deliveries ks cells [])
-    file-room = record { fits = omega (arith, ap length file-is) }
+    file-room = whole-room (writtenText h sources deliveries ks cells) (hourFile h) buf file-is fits
 
     pub file-written : (b : List ℕ) (n : ℕ) → Inked buf 0 b n (writtenText h sources deliveries ks cells) → (n ≡ length (hourFile h)) × (b ≡ hourFile h ++ drop (length (hourFile h)) buf)
-    file-written b n e = (omega (arith, inked-place e, ap length file-is), inked-first e file-room ∙ ap (λ (w : List ℕ). w ++ drop (length w) buf) file-is)
+    file-written b n e = whole-written (writtenText h sources deliveries ks cells) (hourFile h) buf file-is fits b n e
 
 -- the hour's own record of amounts that were made
 pub hour-made : (h : Hour) (zs : List ℤ) → zs ≡ hourAmounts (generated h) (h .losses) (delivered h) → (rest : List ℕ) → recordText (hour zs) rest ≡ recordText (headerLine h) rest

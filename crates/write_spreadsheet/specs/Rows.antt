@@ -1,11 +1,10 @@
 -- The file's rows as they are written: labels apart from their hour, amounts as cells.
-use mathlib.Core.Path.{_≡_, refl, ap, _∙_}
+use mathlib.Core.Path.{_≡_, refl, ap}
 use mathlib.Core.List.{List, []}
-use Prim.Native.Nat.{ℕ, _+_, _-_, _*_, _≤_, _<_}
+use Prim.Native.Nat.{ℕ, _+_, _*_, _≤_, _<_}
 use native.Mathlib.Numerals.{add-one}
 use native.Mathlib.Omega.{arith}
-use lib.ListN.{length, getD, set, take, drop, replicate}
-use lib.Seq.{take-append-seam}
+use lib.ListN.{length, getD, set, replicate}
 use lib.IntN.{ℤ}
 use Rattle.rules.specs.Sequences.{noLabel}
 use Rattle.rules.specs.Fields.{Chars}
@@ -19,10 +18,9 @@ use Rattle.rules.specs.declared.Key.{Key}
 use Rattle.rules.specs.declared.Label.{Label}
 use Rattle.record.specs.Own as own
 use Rattle.record.specs.Own.{fillTo}
-use Rattle.write_fields.specs.Inked.{Text, Room, Inked, Front, inked-place, inked-first, upTo, front-upTo}
+use Rattle.write_fields.specs.Inked.{Text, Room, Front, upTo, front-upTo}
 use Rattle.write_records.specs.Records.{headText, deliveryText, mostHead, front-delivery, front-record, head-most}
-use Rattle.hour_lines.specs.LineAmounts.{SmallFirst, pairFrom, openFrom}
-use Rattle.hour_lines.specs.HourCells.{row-within}
+use Rattle.hour_lines.specs.LineAmounts.{pairFrom, openFrom}
 
 -- the labels of an hour's first entries, and none past them
 abbrev pub noLabels : List Label
@@ -87,17 +85,6 @@ pair-made head s e rest = ap (λ (zs : List ℤ). deliveryText head s zs rest) e
 pub open-made : (s : Chars) {ys zs : List ℤ} → ys ≡ zs → (rest : List ℕ) → recordText (internal s ys) rest ≡ recordText (internal s zs) rest
 open-made s e rest = ap (λ (zs : List ℤ). recordText (internal s zs) rest) e
 
--- the cells of i and those before it, of n that have w each from a place on
-pub part-small : (cells : List ℤ) (base i n w : ℕ) → i < n → SmallFirst cells (base + n * w) → SmallFirst cells (base + i * w + w)
-part-small cells base i n w h s =
-    let k = row-within i n w h in
-    record { there = omega (arith, s .there); small = λ i l. s .small i (omega arith) }
-
-pub row-small : (cells : List ℤ) (j m w : ℕ) → j < m → SmallFirst cells (m * w) → SmallFirst cells (j * w + w)
-row-small cells j m w h s =
-    let k = row-within j m w h in
-    record { there = omega (arith, s .there); small = λ i l. s .small i (omega arith) }
-
 -- What the records of a delivery begin with.
 
 -- the first n labels have at most as many characters as any label
@@ -106,13 +93,6 @@ pub record ShortLabels (ls : List Label) (n : ℕ) : Type 0 where
 
 pub head-room : (cs : Chars) (number : InternalSequence) (buf : List ℕ) → length cs ≤ 16 → length buf ≡ mostHead → Room buf 0 (headText cs number [])
 head-room cs number buf l e = record { fits = omega (arith, head-most cs number l) }
-
--- its bytes in the buffer that they were written into
-pub head-bytes : (cs : Chars) (number : InternalSequence) (a b : List ℕ) (k : ℕ) → Room a 0 (headText cs number []) → Inked a 0 b k (headText cs number) → take (k - 0) (drop 0 b) ≡ headText cs number []
-head-bytes cs number a b k r i =
-    let w = headText cs number [] in
-    let n : k - 0 ≡ length w = omega (arith, inked-place i) in
-    ap (λ (m : ℕ). take m b) n ∙ ap (take (length w)) (inked-first i r) ∙ take-append-seam w (drop (length w) a)
 
 -- the row of a head that was written
 pub row-made : (sources : List Label) (n : ℕ) (deliveries : List Label) (keys : List Key) (cells : List ℤ) (j : ℕ) (head : List ℕ) → head ≡ headAt deliveries keys j

@@ -1,23 +1,21 @@
 -- What writing an hour's file comes to: of a valid hour by what its reconstruction came to, of a record and of a deck by that.
 use mathlib.Core.Path.{_≡_, ap, sym, _∙_}
 use mathlib.Core.Bool.{true, false}
-use mathlib.Core.List.{List, _++_}
-use Prim.Native.Nat.{ℕ, _≤_, _<_}
+use mathlib.Core.List.{List}
+use Prim.Native.Nat.{ℕ, _≤_}
 use native.Mathlib.Omega.{arith}
 use lib.IntN.{ℤ}
-use lib.ListN.{length, drop}
-use borrow.Author.Tests.{le-ltb, lt-ltb}
-use Rattle.rules.specs.Answers.{writtenOf}
-use Rattle.rules.specs.Refusals.{Outcome, accepted, refused}
+use lib.ListN.{length}
+use Rattle.rules.specs.Refusals.{accepted, refused}
 use Rattle.rules.specs.Hour.{reconstructed}
 use Rattle.rules.specs.Reading.{reading}
 use Rattle.rules.specs.Writing.{valid}
 use Rattle.rules.specs.Calls as calls
-use Rattle.rules.specs.Calls.{into, fileFor, spreadsheet, deckSpreadsheet, leaves}
+use Rattle.rules.specs.Calls.{into, fileFor, spreadsheet, deckSpreadsheet}
 use Rattle.rules.specs.declared.Hour.{Hour}
 use Rattle.rules.specs.declared.Key.{Key}
 use Rattle.rules.specs.declared.Refusal.{Refusal}
-use Rattle.rules.specs.declared.Refusal.the-variants.{Short, NoDeck}
+use Rattle.rules.specs.declared.Refusal.the-variants.{NoDeck}
 use Rattle.rules.specs.declared.Written.{Written}
 use Rattle.rules.specs.declared.Written.the-variants.{Count, Refused as NotWritten}
 use Rattle.sequence.specs.Placings.{placings}
@@ -25,19 +23,6 @@ use Rattle.hour_lines.specs.HourCells.{Answered}
 use Rattle.hour_lines.specs.HourRun.{Ended, run-refused, run-done, run-cells}
 use Rattle.write_spreadsheet.specs.HourFile.{hourFile, file-run}
 use Rattle.write_spreadsheet.specs.FileFits.{mostFile, file-fits}
-
--- a text handed over into a lent buffer
-module _ (w out : List ℕ) where
-  pub into-short : length out < length w → (NotWritten Short ≡ writtenOf (into (length out) w)) × (out ≡ leaves (into (length out) w) out)
-  into-short l = let f = lt-ltb (length out) (length w) l in (rw f, rw f)
-
-  pub into-whole : (n : ℕ) (after : List ℕ) → length w ≤ length out → n ≡ length w → after ≡ w ++ drop (length w) out
-      → (Count n ≡ writtenOf (into (length out) w)) × (after ≡ leaves (into (length out) w) out)
-  into-whole n after l e d = let f = le-ltb (length out) (length w) l in (rw (f, e), rw f d)
-
--- what a call answers and leaves, where two calls come to the same
-pub told-as : {x y : Outcome (List ℕ)} (out : List ℕ) → x ≡ y → {r : Written} {after : List ℕ} → (r ≡ writtenOf x) × (after ≡ leaves x out) → (r ≡ writtenOf y) × (after ≡ leaves y out)
-told-as out e t = (t .0 ∙ ap writtenOf e, t .1 ∙ ap (λ (o : Outcome (List ℕ)). leaves o out) e)
 
 module _ (h : Hour) where
   -- 12 or 13

@@ -6,7 +6,7 @@ ghost use mathlib.Core.List.{[], _++_};
 ghost use Prim.Native.Nat.{_+_, _*_, _^_, _≤_, _<_};
 ghost use lib.ListN.{length, drop};
 ghost use Rattle.rules.specs.Answers.{writtenOf};
-ghost use Rattle.rules.specs.Hour.{pairWidth, openWidth, cellCount, answer};
+ghost use Rattle.rules.specs.Hour.{pairWidth, openWidth};
 ghost use Rattle.rules.specs.Reading.{generated, delivered};
 ghost use Rattle.rules.specs.Report.{hourAmounts};
 ghost use Rattle.rules.specs.Writing.{valid};
@@ -19,7 +19,9 @@ ghost use Rattle.hour_lines.specs.HourCells.{Answered};
 ghost use Rattle.hour_lines.specs.HourRun.{Ended};
 ghost use Rattle.write_spreadsheet.specs.Rows.{ShortLabels, rowText, rowAt, openAt, sourceLabels, deliveryLabels};
 ghost use Rattle.write_spreadsheet.specs.HourFile.{hourFile};
+use hour_lines::FEW_CELLS;
 use hour_lines::HOUR_AMOUNTS;
+use hour_lines::MOST_CELLS;
 use moves::PAIR_CELLS;
 use reconstruct::OPEN_CELLS;
 use rules::Hour;
@@ -28,11 +30,6 @@ use rules::Label;
 use rules::Refusal;
 use rules::Verdict;
 use rules::Written;
-
-// As many cells as an hour has at most, and as many as a small one may have.
-const MOST_CELLS: usize = 32 * (32 * PAIR_CELLS) + 32 * OPEN_CELLS;
-
-const FEW_CELLS: usize = 512;
 
 // Room for what all records of a delivery begin with.
 const MOST_HEAD: usize = 64;
@@ -267,15 +264,6 @@ fn hand_file(out: &mut [u8], h: Hour, keys: [Key; 32], cells: &[i64]) -> Written
     Written::Count(put_file(out, h, keys, cells))
 }
 
-// The cells of a valid hour, whose deliveries have these keys.
-fn fill_cells(h: Hour, keys: [Key; 32], cells: &mut [i64]) -> Written
-    requires { ⌜ (valid h ≡ true) × (keys ≡ placings (h .deliveries) (h .ndeliveries)) × (cellCount h ≤ length (now cells)) ⌝ }
-    ensures outcome { λ r. ⌜ r ≡ writtenOf (answer h) ⌝ }
-    ensures cells { λ _. ⌜ now (cells .exit) ≡ leaves (answer h) (now (cells .entry)) ⌝ }
-{
-    reconstruct::fill(h, keys, true, cells)
-}
-
 // The file of a valid hour, of what its reconstruction answered and left in the cells.
 fn write_answer(out: &mut [u8], h: Hour, keys: [Key; 32], end: Written, cells: &[i64]) -> Written
     requires { ⌜ (valid h ≡ true) × (keys ≡ placings (h .deliveries) (h .ndeliveries)) × Ended h end (now cells) ⌝ }
@@ -302,11 +290,11 @@ fn write_valid(h: Hour, out: &mut [u8]) -> Written
     let count = h.ndeliveries * (h.nsources * PAIR_CELLS) + h.nsources * OPEN_CELLS;
     if count <= FEW_CELLS {
         let mut cells = [0i64; FEW_CELLS];
-        let end = fill_cells(h, keys, &mut cells);
+        let end = hour_lines::fill_cells(h, keys, &mut cells);
         return write_answer(out, h, keys, end, &cells);
     }
     let mut cells = [0i64; MOST_CELLS];
-    let end = fill_cells(h, keys, &mut cells);
+    let end = hour_lines::fill_cells(h, keys, &mut cells);
     write_answer(out, h, keys, end, &cells)
 }
 

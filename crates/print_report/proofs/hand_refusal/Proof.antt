@@ -6,8 +6,7 @@ use native.Mathlib.Omega.{arith}
 use Rattle.rules.specs.Refusals.{numberOf, placeOf}
 use Rattle.rules.specs.Report.{refusal}
 use Rattle.print_lines.specs.Lines.{printed}
-use Rattle.print_report.specs.HourRows.{whole-room, whole-written}
-use Rattle.print_report.specs.Printing.{handed-short, handed-whole}
+use Rattle.hour_lines.specs.HandedOver.{whole-room, whole-written, into-short, into-whole}
 use Rattle.print_report.proofs.hand_refusal.Statement.{statement}
 use Rattle.print_report.proofs.hand_refusal.Tie as tie
 
@@ -18,7 +17,7 @@ returns : tie.Need-returns
 returns c =
     let refusal-length = c .before in
     let s = refusal-length .before .before in
-    handed-short (printed (refusal (numberOf (s .args .x)) (placeOf (s .args .x))) []) (s .args .out .now) (omega (arith, refusal-length .refusal-length .ensures))
+    into-short (printed (refusal (numberOf (s .args .x)) (placeOf (s .args .x))) []) (s .args .out .now) (omega (arith, refusal-length .refusal-length .ensures))
 
 put-refusal-requires : tie.Need-put-refusal-requires
 put-refusal-requires c κs =
@@ -37,7 +36,7 @@ returns-2 c =
     let s = refusal-length .before .before in
     let text = printed (refusal (numberOf (s .args .x)) (placeOf (s .args .x))) in
     let written = whole-written text (text []) (s .args .out .now) refl (omega (arith, refusal-length .refusal-length .ensures)) _ _ (put-refusal .put-refusal .ensures) in
-    handed-whole (text []) (s .args .out .now) _ _ (omega (arith, refusal-length .refusal-length .ensures)) (written .0) (written .1)
+    into-whole (text []) (s .args .out .now) _ _ (omega (arith, refusal-length .refusal-length .ensures)) (written .0) (written .1)
 
 pub hand-refusal-spec : {M : Type 1} → statement M
 hand-refusal-spec =

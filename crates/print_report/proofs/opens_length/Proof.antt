@@ -8,7 +8,8 @@ use lib.ListN.{length}
 use Rattle.rules.specs.Words.{text}
 use Rattle.rules.specs.Hour.{openWidth}
 use Rattle.write_fields.specs.Inked.{upTo, length-none, length-more, length-within}
-use Rattle.print_report.specs.Rows.{openAt, part-small, front-open-at, line-same}
+use Rattle.hour_lines.specs.HourCells.{part-small}
+use Rattle.print_report.specs.Rows.{openAt, front-open-at, line-same}
 use Rattle.print_report.proofs.opens_length.Statement.{statement}
 use Rattle.print_report.proofs.opens_length.Tie as tie
 

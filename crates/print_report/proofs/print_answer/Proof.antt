@@ -1,14 +1,11 @@
 -- `print_report::print_answer` meets its contract. The line of 12 or 13 where that was met, or else the hour's lines; where the buffer holds any report, their length is not found.
 use borrow.Author.Needs.{needs}
-use mathlib.Core.List.{[]}
 use mathlib.Core.Path.{sym, _∙_}
 use native.Mathlib.Omega.{arith}
-use Rattle.rules.specs.Refusals.{numberOf, placeOf}
-use Rattle.rules.specs.Report.{refusal}
-use Rattle.print_lines.specs.Lines.{printed}
 use Rattle.print_report.specs.ReportFits.{report-fits}
 use Rattle.hour_lines.specs.HourRun.{run-refused, run-done}
-use Rattle.print_report.specs.Printing.{run-answered, unmet-report, told-as, report-whole}
+use Rattle.hour_lines.specs.HandedOver.{told-as}
+use Rattle.print_report.specs.Printing.{run-answered, unmet-report, reported, report-whole}
 use Rattle.print_report.proofs.print_answer.Statement.{statement}
 use Rattle.print_report.proofs.print_answer.Tie as tie
 
@@ -28,7 +25,7 @@ returns c =
     let s = end .before .before .before .before in
     let r = end .end .given .0 .0 in
     let unmet = run-refused (s .args .x .hour) r (sym (end .end .given .1) ∙ s .pre .1 .outcome) in
-    told-as (s .args .deck .now) (s .args .out .now) (printed (refusal (numberOf r) (placeOf r)) []) (unmet-report (s .args .deck .now) r (s .args .x .hour) (s .pre .0 .read) unmet) (hand-refusal .hand-refusal .ensures)
+    told-as (s .args .out .now) (reported (s .args .deck .now) _ _ (unmet-report (s .args .deck .now) r (s .args .x .hour) (s .pre .0 .read) unmet)) (hand-refusal .hand-refusal .ensures)
 
 enum-told : tie.Need-enum-told
 enum-told c = search needs

@@ -6,7 +6,8 @@ use Rattle.rules.specs.Report.{headerLine, report}
 use Rattle.write_fields.specs.Inked.{Room, inked-as, inked-then, room-as, room-first, room-after}
 use Rattle.print_lines.specs.Lines.{front-printed}
 use Rattle.hour_lines.specs.HourCells.{given, small, pairs-small, base-fits}
-use Rattle.print_report.specs.HourRows.{sources-held, deliveries-held, deliveries-short, front-rows, front-left, header-same, writtenText, report-is, whole-room, whole-written}
+use Rattle.print_report.specs.HourRows.{sources-held, deliveries-held, deliveries-short, front-rows, front-left, header-same, writtenText, report-is}
+use Rattle.hour_lines.specs.HandedOver.{whole-room, whole-written}
 use Rattle.print_report.proofs.put_hour.Statement.{statement}
 use Rattle.print_report.proofs.put_hour.Tie as tie
 

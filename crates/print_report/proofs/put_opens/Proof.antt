@@ -8,7 +8,8 @@ use lib.ListN.{length}
 use Rattle.rules.specs.Words.{text}
 use Rattle.rules.specs.Hour.{openWidth}
 use Rattle.write_fields.specs.Inked.{Inked, upTo, inked-as, inked-none, inked-more, inked-all, room-as, room-next}
-use Rattle.print_report.specs.Rows.{openAt, part-small, front-open-at, line-same}
+use Rattle.hour_lines.specs.HourCells.{part-small}
+use Rattle.print_report.specs.Rows.{openAt, front-open-at, line-same}
 use Rattle.print_report.proofs.put_opens.Statement.{statement}
 use Rattle.print_report.proofs.put_opens.Tie as tie
 

@@ -7,8 +7,11 @@ use native.Mathlib.Nat.{mul-le-mul}
 use native.Mathlib.Omega.{arith}
 use lib.ListN.{replicate}
 use Rattle.rules.specs.Hour.{pairWidth, keyAt}
+use Rattle.print_lines.specs.Lines.{headText}
 use Rattle.write_fields.specs.Inked.{Inked, upTo, inked-place, inked-as, inked-none, inked-more, inked-all, room-as, room-next}
-use Rattle.print_report.specs.Rows.{rowAt, front-row-at, row-small, head-room, head-bytes, head-at, row-at-held}
+use Rattle.hour_lines.specs.HourCells.{row-small}
+use Rattle.hour_lines.specs.HandedOver.{first-bytes}
+use Rattle.print_report.specs.Rows.{rowAt, front-row-at, head-room, head-at, row-at-held}
 use Rattle.print_report.proofs.put_rows.Statement.{statement}
 use Rattle.print_report.proofs.put_rows.Tie as tie
 
@@ -85,7 +88,7 @@ put-row-requires c κs =
     let s = at-loop .before .before .before in
     let a = s .args in
     let room = head-room (a .deck .now) (a .t6) (a .m) (part-at .part-at .result .now) (keyAt (a .t8) (at-loop .loop .j) .number) (replicate 64 0) (at-loop .loop .j) (omega arith) (s .pre .4) (part-at .part-at .ensures .0) refl in
-    let head-is = head-at (a .deck .now) (a .t6) (a .t8) (at-loop .loop .j) (part-at .part-at .result .now) _ (part-at .part-at .ensures .0) (head-bytes (part-at .part-at .result .now) (keyAt (a .t8) (at-loop .loop .j) .number) _ _ _ room (put-head .put-head .ensures)) in
+    let head-is = head-at (a .deck .now) (a .t6) (a .t8) (at-loop .loop .j) (part-at .part-at .result .now) _ (part-at .part-at .ensures .0) (first-bytes (headText (part-at .part-at .result .now) (keyAt (a .t8) (at-loop .loop .j) .number)) _ _ _ room (put-head .put-head .ensures)) in
     let written = row-at-held (a .deck .now) (a .sources) (a .n) (a .t6) (a .t8) (a .cells .now) (at-loop .loop .j) _ head-is in
     let l : at-loop .loop .j < a .m = omega arith in (
       s .pre .0,
@@ -109,7 +112,7 @@ loop-again c =
     let s = at-loop .before .before .before in
     let a = s .args in
     let room = head-room (a .deck .now) (a .t6) (a .m) (part-at .part-at .result .now) (keyAt (a .t8) (at-loop .loop .j) .number) (replicate 64 0) (at-loop .loop .j) (omega arith) (s .pre .4) (part-at .part-at .ensures .0) refl in
-    let head-is = head-at (a .deck .now) (a .t6) (a .t8) (at-loop .loop .j) (part-at .part-at .result .now) _ (part-at .part-at .ensures .0) (head-bytes (part-at .part-at .result .now) (keyAt (a .t8) (at-loop .loop .j) .number) _ _ _ room (put-head .put-head .ensures)) in
+    let head-is = head-at (a .deck .now) (a .t6) (a .t8) (at-loop .loop .j) (part-at .part-at .result .now) _ (part-at .part-at .ensures .0) (first-bytes (headText (part-at .part-at .result .now) (keyAt (a .t8) (at-loop .loop .j) .number)) _ _ _ room (put-head .put-head .ensures)) in
     let written = row-at-held (a .deck .now) (a .sources) (a .n) (a .t6) (a .t8) (a .cells .now) (at-loop .loop .j) _ head-is in
     (search needs, search needs, search needs, inked-more _ _ (at-loop .loop .inv .3) (inked-as written (put-row .put-row .ensures)))
 

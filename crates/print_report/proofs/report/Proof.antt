@@ -1,6 +1,5 @@
 -- `print_report::report` meets its contract. The line of the deck's refusal, or else the hour's report, with memory for as many cells as it may have.
 use borrow.Author.Needs.{needs}
-use mathlib.Core.List.{[]}
 use mathlib.Core.Path.{_≡_, refl}
 use Prim.Native.Nat.{ℕ, _*_, _≤_}
 use native.Mathlib.Nat.{mul-le-mul}
@@ -8,14 +7,12 @@ use native.Mathlib.Omega.{arith}
 use lib.IntN.{pos}
 use lib.ListN.{length, replicate}
 use Rattle.rules.specs.Hour.{pairWidth}
-use Rattle.rules.specs.Refusals.{numberOf, placeOf}
-use Rattle.rules.specs.Report.{refusal}
 use Rattle.roundtrip.specs.DeckRoundTrip.{accepted-is-valid}
 use Rattle.roundtrip.specs.GivenHour.{accepted-given}
 use Rattle.reconstruct.specs.WholeAnswer.{placeable}
 use Rattle.balance.specs.CellsAreFew.{mostCells, count-few}
-use Rattle.print_lines.specs.Lines.{printed}
-use Rattle.print_report.specs.Printing.{scanned-refused, scanned-accepted, read-deck, refused-report, told-as}
+use Rattle.hour_lines.specs.HandedOver.{told-as}
+use Rattle.print_report.specs.Printing.{scanned-refused, scanned-accepted, read-deck, refused-report, reported}
 use Rattle.print_report.proofs.report.Statement.{statement}
 use Rattle.print_report.proofs.report.Tie as tie
 
@@ -39,7 +36,7 @@ returns c =
     let s = scan .before .before .before in
     let r = verdict .verdict .given .0 .0 in
     let refused = scanned-refused (s .args .deck .now) (scan .scan .result) (scan .scan .ensures) r (verdict .verdict .given .1) in
-    told-as (s .args .deck .now) (s .args .out .now) (printed (refusal (numberOf r) (placeOf r)) []) (refused-report (s .args .deck .now) r refused) (hand-refusal .hand-refusal .ensures)
+    told-as (s .args .out .now) (reported (s .args .deck .now) _ _ (refused-report (s .args .deck .now) r refused)) (hand-refusal .hand-refusal .ensures)
 
 enum-told : tie.Need-enum-told
 enum-told c = search needs

@@ -7,7 +7,8 @@ use native.Mathlib.Omega.{arith}
 use lib.ListN.{length}
 use Rattle.rules.specs.Hour.{pairWidth}
 use Rattle.write_fields.specs.Inked.{upTo, length-none, length-more, length-within}
-use Rattle.print_report.specs.Rows.{pairAt, part-small, front-pair-at, line-same}
+use Rattle.hour_lines.specs.HourCells.{part-small}
+use Rattle.print_report.specs.Rows.{pairAt, front-pair-at, line-same}
 use Rattle.print_report.proofs.row_length.Statement.{statement}
 use Rattle.print_report.proofs.row_length.Tie as tie
 

@@ -7,8 +7,11 @@ use native.Mathlib.Nat.{mul-le-mul}
 use native.Mathlib.Omega.{arith}
 use lib.ListN.{length, replicate}
 use Rattle.rules.specs.Hour.{pairWidth, keyAt}
+use Rattle.print_lines.specs.Lines.{headText}
 use Rattle.write_fields.specs.Inked.{upTo, inked-place, length-none, length-more, length-within}
-use Rattle.print_report.specs.Rows.{rowAt, front-row-at, row-small, head-room, head-bytes, head-at, row-at-held}
+use Rattle.hour_lines.specs.HourCells.{row-small}
+use Rattle.hour_lines.specs.HandedOver.{first-bytes}
+use Rattle.print_report.specs.Rows.{rowAt, front-row-at, head-room, head-at, row-at-held}
 use Rattle.print_report.proofs.rows_length.Statement.{statement}
 use Rattle.print_report.proofs.rows_length.Tie as tie
 
@@ -85,7 +88,7 @@ row-length-requires c κs =
     let s = at-loop .before .before in
     let a = s .args in
     let room = head-room (a .deck .now) (a .t4) (a .m) (part-at .part-at .result .now) (keyAt (a .t6) (at-loop .loop .j) .number) (replicate 64 0) (at-loop .loop .j) (omega arith) (s .pre .4) (part-at .part-at .ensures .0) refl in
-    let head-is = head-at (a .deck .now) (a .t4) (a .t6) (at-loop .loop .j) (part-at .part-at .result .now) _ (part-at .part-at .ensures .0) (head-bytes (part-at .part-at .result .now) (keyAt (a .t6) (at-loop .loop .j) .number) _ _ _ room (put-head .put-head .ensures)) in
+    let head-is = head-at (a .deck .now) (a .t4) (a .t6) (at-loop .loop .j) (part-at .part-at .result .now) _ (part-at .part-at .ensures .0) (first-bytes (headText (part-at .part-at .result .now) (keyAt (a .t6) (at-loop .loop .j) .number)) _ _ _ room (put-head .put-head .ensures)) in
     let written = row-at-held (a .deck .now) (a .sources) (a .n) (a .t4) (a .t6) (a .cells .now) (at-loop .loop .j) _ head-is in
     let rows = rowAt (a .deck .now) (a .sources) (a .n) (a .t4) (a .t6) (a .cells .now) in
     let fronts = front-row-at (a .deck .now) (a .sources) (a .n) (a .t4) (a .t6) (a .cells .now) in
@@ -106,7 +109,7 @@ add-size c =
     let s = at-loop .before .before in
     let a = s .args in
     let room = head-room (a .deck .now) (a .t4) (a .m) (part-at .part-at .result .now) (keyAt (a .t6) (at-loop .loop .j) .number) (replicate 64 0) (at-loop .loop .j) (omega arith) (s .pre .4) (part-at .part-at .ensures .0) refl in
-    let head-is = head-at (a .deck .now) (a .t4) (a .t6) (at-loop .loop .j) (part-at .part-at .result .now) _ (part-at .part-at .ensures .0) (head-bytes (part-at .part-at .result .now) (keyAt (a .t6) (at-loop .loop .j) .number) _ _ _ room (put-head .put-head .ensures)) in
+    let head-is = head-at (a .deck .now) (a .t4) (a .t6) (at-loop .loop .j) (part-at .part-at .result .now) _ (part-at .part-at .ensures .0) (first-bytes (headText (part-at .part-at .result .now) (keyAt (a .t6) (at-loop .loop .j) .number)) _ _ _ room (put-head .put-head .ensures)) in
     let written = row-at-held (a .deck .now) (a .sources) (a .n) (a .t4) (a .t6) (a .cells .now) (at-loop .loop .j) _ head-is in
     let rows = rowAt (a .deck .now) (a .sources) (a .n) (a .t4) (a .t6) (a .cells .now) in
     let fronts = front-row-at (a .deck .now) (a .sources) (a .n) (a .t4) (a .t6) (a .cells .now) in
@@ -128,7 +131,7 @@ loop-again c =
     let s = at-loop .before .before in
     let a = s .args in
     let room = head-room (a .deck .now) (a .t4) (a .m) (part-at .part-at .result .now) (keyAt (a .t6) (at-loop .loop .j) .number) (replicate 64 0) (at-loop .loop .j) (omega arith) (s .pre .4) (part-at .part-at .ensures .0) refl in
-    let head-is = head-at (a .deck .now) (a .t4) (a .t6) (at-loop .loop .j) (part-at .part-at .result .now) _ (part-at .part-at .ensures .0) (head-bytes (part-at .part-at .result .now) (keyAt (a .t6) (at-loop .loop .j) .number) _ _ _ room (put-head .put-head .ensures)) in
+    let head-is = head-at (a .deck .now) (a .t4) (a .t6) (at-loop .loop .j) (part-at .part-at .result .now) _ (part-at .part-at .ensures .0) (first-bytes (headText (part-at .part-at .result .now) (keyAt (a .t6) (at-loop .loop .j) .number)) _ _ _ room (put-head .put-head .ensures)) in
     let written = row-at-held (a .deck .now) (a .sources) (a .n) (a .t4) (a .t6) (a .cells .now) (at-loop .loop .j) _ head-is in
     let rows = rowAt (a .deck .now) (a .sources) (a .n) (a .t4) (a .t6) (a .cells .now) in
     let fronts = front-row-at (a .deck .now) (a .sources) (a .n) (a .t4) (a .t6) (a .cells .now) in

@@ -5,7 +5,8 @@ use mathlib.Core.Path.{sym}
 use Rattle.rules.specs.Reading.{reading}
 use Rattle.deck.specs.Answers.{read-accepted, read-refused}
 use Rattle.roundtrip.specs.DeckRoundTrip.{accepted-is-valid}
-use Rattle.write_spreadsheet.specs.Sheets.{deck-refused, deck-accepted, told-as}
+use Rattle.hour_lines.specs.HandedOver.{told-as}
+use Rattle.write_spreadsheet.specs.Sheets.{deck-refused, deck-accepted}
 use Rattle.write_spreadsheet.proofs.deck_spreadsheet.Statement.{statement}
 use Rattle.write_spreadsheet.proofs.deck_spreadsheet.Tie as tie
 

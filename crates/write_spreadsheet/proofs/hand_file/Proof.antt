@@ -1,8 +1,8 @@
 -- `write_spreadsheet::hand_file` meets its contract. The file's length decides whether it is written.
 use borrow.Author.Needs.{needs}
 use native.Mathlib.Omega.{arith}
+use Rattle.hour_lines.specs.HandedOver.{into-short, into-whole}
 use Rattle.write_spreadsheet.specs.HourFile.{hourFile}
-use Rattle.write_spreadsheet.specs.Sheets.{into-short, into-whole}
 use Rattle.write_spreadsheet.proofs.hand_file.Statement.{statement}
 use Rattle.write_spreadsheet.proofs.hand_file.Tie as tie
 

@@ -7,7 +7,8 @@ use native.Mathlib.Omega.{arith}
 use lib.ListN.{length}
 use Rattle.rules.specs.Hour.{openWidth}
 use Rattle.write_fields.specs.Inked.{upTo, length-none, length-more, length-within}
-use Rattle.write_spreadsheet.specs.Rows.{labelAt, openAt, part-small, front-open-at, open-made}
+use Rattle.hour_lines.specs.HourCells.{part-small}
+use Rattle.write_spreadsheet.specs.Rows.{labelAt, openAt, front-open-at, open-made}
 use Rattle.write_spreadsheet.proofs.opens_length.Statement.{statement}
 use Rattle.write_spreadsheet.proofs.opens_length.Tie as tie
 

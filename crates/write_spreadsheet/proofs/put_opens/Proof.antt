@@ -7,7 +7,8 @@ use native.Mathlib.Omega.{arith}
 use lib.ListN.{length}
 use Rattle.rules.specs.Hour.{openWidth}
 use Rattle.write_fields.specs.Inked.{Inked, upTo, inked-as, inked-none, inked-more, inked-all, room-as, room-next}
-use Rattle.write_spreadsheet.specs.Rows.{labelAt, openAt, part-small, front-open-at, open-made}
+use Rattle.hour_lines.specs.HourCells.{part-small}
+use Rattle.write_spreadsheet.specs.Rows.{labelAt, openAt, front-open-at, open-made}
 use Rattle.write_spreadsheet.proofs.put_opens.Statement.{statement}
 use Rattle.write_spreadsheet.proofs.put_opens.Tie as tie
 

@@ -7,7 +7,8 @@ use native.Mathlib.Omega.{arith}
 use lib.ListN.{length}
 use Rattle.rules.specs.Hour.{pairWidth}
 use Rattle.write_fields.specs.Inked.{Inked, upTo, inked-as, inked-none, inked-more, inked-all, room-as, room-next}
-use Rattle.write_spreadsheet.specs.Rows.{labelAt, pairAt, part-small, front-pair-at, pair-made}
+use Rattle.hour_lines.specs.HourCells.{part-small}
+use Rattle.write_spreadsheet.specs.Rows.{labelAt, pairAt, front-pair-at, pair-made}
 use Rattle.write_spreadsheet.proofs.put_row.Statement.{statement}
 use Rattle.write_spreadsheet.proofs.put_row.Tie as tie
 

@@ -7,7 +7,8 @@ use native.Mathlib.Omega.{arith}
 use lib.ListN.{length}
 use Rattle.rules.specs.Hour.{pairWidth}
 use Rattle.write_fields.specs.Inked.{upTo, length-none, length-more, length-within}
-use Rattle.write_spreadsheet.specs.Rows.{labelAt, pairAt, part-small, front-pair-at, pair-made}
+use Rattle.hour_lines.specs.HourCells.{part-small}
+use Rattle.write_spreadsheet.specs.Rows.{labelAt, pairAt, front-pair-at, pair-made}
 use Rattle.write_spreadsheet.proofs.row_length.Statement.{statement}
 use Rattle.write_spreadsheet.proofs.row_length.Tie as tie
 

@@ -8,7 +8,10 @@ use native.Mathlib.Omega.{arith}
 use lib.ListN.{length, replicate}
 use Rattle.rules.specs.Hour.{pairWidth, keyAt}
 use Rattle.write_fields.specs.Inked.{upTo, inked-place, length-none, length-more, length-within}
-use Rattle.write_spreadsheet.specs.Rows.{labelAt, rowAt, front-row-at, row-small, head-room, head-bytes, row-made}
+use Rattle.write_records.specs.Records.{headText}
+use Rattle.hour_lines.specs.HourCells.{row-small}
+use Rattle.hour_lines.specs.HandedOver.{first-bytes}
+use Rattle.write_spreadsheet.specs.Rows.{labelAt, rowAt, front-row-at, head-room, row-made}
 use Rattle.write_spreadsheet.proofs.rows_length.Statement.{statement}
 use Rattle.write_spreadsheet.proofs.rows_length.Tie as tie
 
@@ -82,7 +85,7 @@ row-length-requires c κs =
     let a = s .args in
     let j = at-loop .loop .j in
     let room = head-room (labelAt (a .t3) j) (keyAt (a .t5) j .number) (replicate 64 0) (s .pre .2 .short j (omega arith)) refl in
-    let head-is = head-bytes (labelAt (a .t3) j) (keyAt (a .t5) j .number) _ _ _ room (put-head .put-head .ensures) in
+    let head-is = first-bytes (headText (labelAt (a .t3) j) (keyAt (a .t5) j .number)) _ _ _ room (put-head .put-head .ensures) in
     let written = row-made (a .sources) (a .n) (a .t3) (a .t5) (a .cells .now) j _ head-is in
     let rows = rowAt (a .sources) (a .n) (a .t3) (a .t5) (a .cells .now) in
     let fronts = front-row-at (a .sources) (a .n) (a .t3) (a .t5) (a .cells .now) in
@@ -102,7 +105,7 @@ add-size c =
     let a = s .args in
     let j = at-loop .loop .j in
     let room = head-room (labelAt (a .t3) j) (keyAt (a .t5) j .number) (replicate 64 0) (s .pre .2 .short j (omega arith)) refl in
-    let head-is = head-bytes (labelAt (a .t3) j) (keyAt (a .t5) j .number) _ _ _ room (put-head .put-head .ensures) in
+    let head-is = first-bytes (headText (labelAt (a .t3) j) (keyAt (a .t5) j .number)) _ _ _ room (put-head .put-head .ensures) in
     let written = row-made (a .sources) (a .n) (a .t3) (a .t5) (a .cells .now) j _ head-is in
     let rows = rowAt (a .sources) (a .n) (a .t3) (a .t5) (a .cells .now) in
     let fronts = front-row-at (a .sources) (a .n) (a .t3) (a .t5) (a .cells .now) in
@@ -125,7 +128,7 @@ loop-again c =
     let a = s .args in
     let j = at-loop .loop .j in
     let room = head-room (labelAt (a .t3) j) (keyAt (a .t5) j .number) (replicate 64 0) (s .pre .2 .short j (omega arith)) refl in
-    let head-is = head-bytes (labelAt (a .t3) j) (keyAt (a .t5) j .number) _ _ _ room (put-head .put-head .ensures) in
+    let head-is = first-bytes (headText (labelAt (a .t3) j) (keyAt (a .t5) j .number)) _ _ _ room (put-head .put-head .ensures) in
     let written = row-made (a .sources) (a .n) (a .t3) (a .t5) (a .cells .now) j _ head-is in
     let rows = rowAt (a .sources) (a .n) (a .t3) (a .t5) (a .cells .now) in
     let fronts = front-row-at (a .sources) (a .n) (a .t3) (a .t5) (a .cells .now) in

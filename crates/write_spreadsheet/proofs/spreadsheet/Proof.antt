@@ -3,7 +3,8 @@ use borrow.Author.Needs.{needs}
 use borrow.Author.Tests.{not-true, not-false}
 use lib.ListN.{length}
 use mathlib.Core.Path.{sym, _∙_}
-use Rattle.write_spreadsheet.specs.Sheets.{sheet-refused, sheet-valid, told-as}
+use Rattle.hour_lines.specs.HandedOver.{told-as}
+use Rattle.write_spreadsheet.specs.Sheets.{sheet-refused, sheet-valid}
 use Rattle.write_spreadsheet.proofs.spreadsheet.Statement.{statement}
 use Rattle.write_spreadsheet.proofs.spreadsheet.Tie as tie
 

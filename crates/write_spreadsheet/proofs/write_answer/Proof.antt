@@ -3,8 +3,9 @@ use borrow.Author.Needs.{needs}
 use Prim.Native.Nat.{_≤_}
 use native.Mathlib.Omega.{arith}
 use lib.ListN.{length}
+use Rattle.hour_lines.specs.HandedOver.{into-whole, told-as}
 use Rattle.write_spreadsheet.specs.HourFile.{hourFile}
-use Rattle.write_spreadsheet.specs.Sheets.{into-whole, told-as, unmet, met, hour-fits, ended-refused, ended-done}
+use Rattle.write_spreadsheet.specs.Sheets.{unmet, met, hour-fits, ended-refused, ended-done}
 use Rattle.write_spreadsheet.proofs.write_answer.Statement.{statement}
 use Rattle.write_spreadsheet.proofs.write_answer.Tie as tie
 

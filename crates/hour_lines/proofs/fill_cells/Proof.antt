@@ -1,11 +1,11 @@
--- `write_spreadsheet::fill_cells` meets its contract. Its cells fit, so that the call comes to the hour's answer.
+-- `hour_lines::fill_cells` meets its contract. Its cells fit, so that the call comes to the hour's answer.
 use borrow.Author.Needs.{needs}
 use mathlib.Core.Path.{ap, _∙_}
 use Rattle.rules.specs.Answers.{writtenOf}
 use Rattle.rules.specs.Calls.{leaves}
 use Rattle.hour_lines.specs.HourRun.{filled}
-use Rattle.write_spreadsheet.proofs.fill_cells.Statement.{statement}
-use Rattle.write_spreadsheet.proofs.fill_cells.Tie as tie
+use Rattle.hour_lines.proofs.fill_cells.Statement.{statement}
+use Rattle.hour_lines.proofs.fill_cells.Tie as tie
 
 fill-requires : tie.Need-fill-requires
 fill-requires c κs = search needs
