@@ -43,7 +43,7 @@ enum {
     BARLEYHOOD_NO_HEADROOM = 13, /* too little headroom for a group's credit: group */
     BARLEYHOOD_SHORT = 14,       /* the lent buffer is too short (calls only): 0 */
     BARLEYHOOD_NO_DECK = 15,     /* the hour record is one that no deck gives (calls only): 0 */
-    BARLEYHOOD_FILE_RECORD = 16  /* a record of a spreadsheet file is not of its form, missing or out of order (no call reads files yet): record */
+    BARLEYHOOD_FILE_RECORD = 16  /* a record of a spreadsheet file is not of its form, missing or out of order: record */
 };
 
 /* 0 for a deck that is accepted. */

@@ -1,6 +1,7 @@
 // Many hours in one run: for each frame on standard input, a line `deck N` or `deck N NAME` and its N bytes, a line `report M` or `report M NAME` and
-// the M bytes of its report on standard output, as soon as the frame is there. A frame that is not of its form ends the run with a line `frame` and
-// its number from 1. On descriptor 3 goes how the run ended, and on 4, where somebody watches, how many decks are done.
+// the M bytes of its report on standard output, as soon as the frame is there; for one with `spreadsheet` in its head the same with `spreadsheet` and
+// the deck's spreadsheet file, unless it is refused. A frame that is not of its form ends the run with a line `frame` and its number from 1. On
+// descriptor 3 goes how the run ended, and on 4, where somebody watches, how many decks are done.
 use frames::Coming;
 use frames::Ending;
 use rules::Written;
@@ -34,7 +35,7 @@ fn put_report(deck: &[u8], k: u64, rest: &[u8]) -> Ending {
     let Written::Count(n) = print_report::report(deck, &mut out) else {
         return Ending::Unwritten;
     };
-    if !frames::put_answer(rest, &out, n) {
+    if !frames::put_answer(b"report ", rest, &out, n) {
         return Ending::Unwritten;
     }
     if frames::tells_refusal(&out) {
@@ -44,9 +45,21 @@ fn put_report(deck: &[u8], k: u64, rest: &[u8]) -> Ending {
     Ending::Written
 }
 
+// Nor is any file longer than what is lent for it. A refused deck has none: its report tells.
+fn put_spreadsheet(deck: &[u8], k: u64, rest: &[u8]) -> Ending {
+    let mut out = [0u8; 147456];
+    let Written::Count(n) = write_spreadsheet::deck_spreadsheet(deck, &mut out) else {
+        return put_report(deck, k, rest);
+    };
+    if !frames::put_answer(b"spreadsheet ", rest, &out, n) {
+        return Ending::Unwritten;
+    }
+    Ending::Written
+}
+
 // The answer to a frame whose bytes were passed over: 1.
 fn put_over(k: u64, rest: &[u8]) -> Ending {
-    if !frames::put_answer(rest, b"refused 1 0\n", 12) {
+    if !frames::put_answer(b"report ", rest, b"refused 1 0\n", 12) {
         return Ending::Unwritten;
     }
     explain_over(k, rest);
@@ -56,6 +69,7 @@ fn put_over(k: u64, rest: &[u8]) -> Ending {
 fn put_frame(coming: Coming, deck: &[u8], k: u64, rest: &[u8]) -> Ending {
     match coming {
         Coming::Over => put_over(k, rest),
+        Coming::Spreadsheet => put_spreadsheet(deck, k, rest),
         _ => put_report(deck, k, rest),
     }
 }
@@ -63,7 +77,7 @@ fn put_frame(coming: Coming, deck: &[u8], k: u64, rest: &[u8]) -> Ending {
 // Whether no frame follows.
 fn is_last(coming: Coming) -> bool {
     match coming {
-        Coming::Frame | Coming::Over => false,
+        Coming::Report | Coming::Spreadsheet | Coming::Over => false,
         _ => true,
     }
 }

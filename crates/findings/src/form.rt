@@ -423,7 +423,7 @@ fn is_small_letter(b: u8) -> bool {
     }
 }
 
-fn has_order_mark(s: &[u8]) -> bool {
+pub fn has_order_mark(s: &[u8]) -> bool {
     if peek(s, 0) != 239 {
         return false;
     }
@@ -502,12 +502,15 @@ fn letter_above(s: &[u8], k: usize) -> u8 {
     peek(s, above.from)
 }
 
+// More bytes than a deck or a file that is explained has.
+const FAR: u64 = 4294967296;
+
 // A place in a line, from 1.
-fn byte_number(from: usize, at: usize) -> u64 {
+pub fn byte_number(from: usize, at: usize) -> u64 {
     if at < from {
         return 0;
     }
-    numbers::least((at - from) as u64, 8192) + 1
+    numbers::least((at - from) as u64, FAR) + 1
 }
 
 // What was met on line k, which starts at a place.

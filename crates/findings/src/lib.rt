@@ -1,9 +1,10 @@
-// What is found in a refused deck, for its words: a line of a table, and the numbers and parts of the deck that stand for its marks.
+// What is found in a refused deck or file, for its words: a line of a table, and the numbers and parts of the deck that stand for its marks.
 // No contract says what is found: that is tested (tests/words). Internal: words calls it.
 pub mod entries;
 pub mod form;
 pub mod lines;
 pub mod outside;
+pub mod records;
 pub mod sentences;
 pub mod shortage;
 

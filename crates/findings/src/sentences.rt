@@ -116,3 +116,20 @@ pub const SUMS: usize = 75;
 pub const UNPLACED: usize = 76;
 
 pub const SHORT: usize = 77;
+
+// Of a spreadsheet file.
+pub const EMPTY_FILE: usize = 78;
+
+pub const FILE_MARK: usize = 79;
+
+pub const NO_END_RECORD: usize = 80;
+
+pub const AFTER_END_RECORD: usize = 81;
+
+pub const CUT_RECORD: usize = 82;
+
+pub const LF_ALONE: usize = 83;
+
+pub const SEMICOLON: usize = 84;
+
+pub const NO_HEADER: usize = 85;

@@ -1,16 +1,17 @@
-// What programs read and write: frames on standard input, each a line `deck N` or `deck N NAME` and then N bytes; answers on standard output, each
-// with whether it could be written; and on descriptor 3 how the run ended, for the program that started this one.
+// What programs read and write: frames on standard input, each a line `deck N` or `deck N NAME`, or `spreadsheet` for `deck`, and then N bytes; answers
+// on standard output, each with whether it could be written; and on descriptor 3 how the run ended, for the program that started this one.
 // The input stands in a lent window, of which the bytes from `from` to `have` are not used yet; nothing else of it is kept.
 ghost use mathlib.Core.Path.{_≡_};
 ghost use Prim.Native.Nat.{_≤_, _<_};
 ghost use lib.ListN.{length};
 
-// How a run ended: all written; a deck refused or a frame broken; a read that failed; a write that failed.
+// How a run ended: all written; a deck or file refused or a frame broken; a read that failed; a write that failed; an input longer than the program takes.
 pub enum Ending {
     Written,
     Refused,
     Unread,
     Unwritten,
+    TooLong,
 }
 
 // The ending told on descriptor 3. Where that is closed, nobody asked.
@@ -20,6 +21,7 @@ pub fn tell(ending: Ending) {
         Ending::Refused => io::write_all(3, b"1\n"),
         Ending::Unread => io::write_all(3, b"2 read\n"),
         Ending::Unwritten => io::write_all(3, b"2 write\n"),
+        Ending::TooLong => io::write_all(3, b"2 long\n"),
     }
     ;
 }
@@ -191,13 +193,12 @@ fn head_number(s: &[u8], at: usize) -> Head
     unfinished(false)
 }
 
-// The head that a frame starts with.
-fn head_of(s: &[u8]) -> Head
+// The head whose word is this one.
+fn head_after(s: &[u8], word: &[u8]) -> Head
     ensures { λ r. ⌜ (r .rest ≤ r .start) × (r .start ≤ length (now (s .entry))) ⌝ }
 {
-    let word = b"deck ";
     let mut i: usize = 0;
-    while i < 5 {
+    while i < word.len() {
         if s.len() <= i {
             return unfinished(false);
         }
@@ -206,13 +207,32 @@ fn head_of(s: &[u8]) -> Head
         }
         i += 1;
     }
-    head_number(s, 5)
+    head_number(s, i)
 }
 
-// What comes next on the input: a frame that is whole; one of more bytes than a deck may have, passed over; the input's end; a frame that is not of
-// its form or is cut off; a read that fails.
+// Whether a head asks for a spreadsheet, if it is one: its first byte tells.
+fn asks_spreadsheet(s: &[u8]) -> bool {
+    if s.len() == 0 {
+        return false;
+    }
+    s[0] == b's'
+}
+
+// The head that a frame starts with.
+fn head_of(s: &[u8]) -> Head
+    ensures { λ r. ⌜ (r .rest ≤ r .start) × (r .start ≤ length (now (s .entry))) ⌝ }
+{
+    if asks_spreadsheet(s) {
+        return head_after(s, b"spreadsheet ");
+    }
+    head_after(s, b"deck ")
+}
+
+// What comes next on the input: a frame that is whole, with what is asked of its deck; one of more bytes than a deck may have, passed over; the
+// input's end; a frame that is not of its form or is cut off; a read that fails.
 pub enum Coming {
-    Frame,
+    Report,
+    Spreadsheet,
     Over,
     End,
     Broken,
@@ -228,6 +248,14 @@ pub struct Frame {
     pub first: usize,
     pub upto: usize,
     pub have: usize,
+}
+
+// What is asked by a frame that is whole.
+fn asked(head: &[u8]) -> Coming {
+    if asks_spreadsheet(head) {
+        return Coming::Spreadsheet;
+    }
+    Coming::Report
 }
 
 // The most bytes a deck may have.
@@ -294,12 +322,15 @@ pub fn next(window: &mut [u8], from: usize, have: usize) -> Frame
                 return pass_over(window, b - a, h.size, h.rest, h.start);
             }
             if h.size <= (b - first) as u64 {
+                let coming = asked(&window[a..first]);
+                let rest = a + h.rest;
+                let upto = first + (h.size as usize);
                 return Frame {
-                    coming: Coming::Frame,
-                    rest: a + h.rest,
+                    coming: coming,
+                    rest: rest,
                     end: first,
                     first: first,
-                    upto: first + (h.size as usize),
+                    upto: upto,
                     have: b,
                 };
             }
@@ -335,9 +366,9 @@ pub fn put_first(text: &[u8], n: usize) -> bool {
     io::write_all(1, &text[0..n])
 }
 
-// A frame's answer: the first n bytes of a text, after a head with the rest of the frame's own.
-pub fn put_answer(rest: &[u8], text: &[u8], n: usize) -> bool {
-    if !io::write_all(1, b"report ") {
+// A frame's answer: the first n bytes of a text, after a head of a word and the rest of the frame's own.
+pub fn put_answer(word: &[u8], rest: &[u8], text: &[u8], n: usize) -> bool {
+    if !io::write_all(1, word) {
         return false;
     }
     if !io::print_decimal(1, n as u64) {

@@ -12,6 +12,7 @@ use findings::form;
 use findings::lines;
 use findings::lines::Span;
 use findings::outside;
+use findings::records;
 use findings::said;
 use findings::sentences;
 use findings::shortage;
@@ -34,12 +35,18 @@ fn put_piece(out: &mut [u8], at: usize, piece: usize) -> usize {
     table::put_frame(out, at, said(piece))
 }
 
+// The one refusal of a spreadsheet file.
+const FILE_RECORD: usize = 16;
+
 fn head_words(number: usize, place: usize) -> usize {
     if place == 0 {
         return table::REFUSED;
     }
     if number < 12 {
         return table::REFUSED_LINE;
+    }
+    if number == FILE_RECORD {
+        return table::REFUSED_RECORD;
     }
     table::REFUSED_GROUP
 }
@@ -81,12 +88,12 @@ fn put_bytes(out: &mut [u8], at: usize, s: &[u8], from: usize, upto: usize) -> u
     put_piece(out, p, table::CUT)
 }
 
-// A line of the deck; nothing where the deck ends before it.
-fn put_line(out: &mut [u8], at: usize, s: &[u8], line: Span) -> usize {
+// A line of the deck, or a record of the file, after a piece that says so; nothing where deck or file ends before it.
+fn put_line(out: &mut [u8], at: usize, piece: usize, s: &[u8], line: Span) -> usize {
     if s.len() <= line.from {
         return at;
     }
-    let p = put_piece(out, at, table::THE_LINE);
+    let p = put_piece(out, at, piece);
     let q = put_bytes(out, p, s, line.from, line.upto);
     put_byte(out, q, b'\n')
 }
@@ -124,7 +131,7 @@ fn put_more(out: &mut [u8], at: usize, s: &[u8], number: usize, k: usize, from: 
 fn put_refused_line(out: &mut [u8], at: usize, s: &[u8], number: usize, k: usize) -> usize {
     let line = lines::line_at(s, k);
     let from = line.from;
-    let p = put_line(out, at, s, line);
+    let p = put_line(out, at, table::THE_LINE, s, line);
     let q = put_found(out, p, s, line_found(s, number, k, from));
     put_more(out, q, s, number, k, from)
 }
@@ -245,6 +252,14 @@ fn put_deck(out: &mut [u8], s: &[u8]) -> usize {
     }
 }
 
+// A file that is refused for its record k.
+fn put_file(out: &mut [u8], s: &[u8], k: usize) -> usize {
+    let p = put_head(out, 0, FILE_RECORD, k);
+    let q = put_line(out, p, table::THE_RECORD, s, records::record_at(s, k));
+    let r = put_found(out, q, s, records::found(s, k));
+    put_tail(out, r, FILE_RECORD)
+}
+
 // Never more than there is room for.
 fn within(n: usize, room: usize) -> usize
     ensures { λ r. ⌜ r ≤ room ⌝ }
@@ -265,6 +280,15 @@ pub fn explain(s: &[u8], out: &mut [u8]) -> usize
 {
     let room = out.len();
     let n = put_deck(out, s);
+    within(n, room)
+}
+
+// The words of a spreadsheet file's refusal, 16 at record k, in the same way.
+pub fn explain_record(file: &[u8], k: usize, out: &mut [u8]) -> usize
+    ensures { λ r. ⌜ r ≤ length (now (out .entry)) ⌝ }
+{
+    let room = out.len();
+    let n = put_file(out, file, k);
     within(n, room)
 }
 

@@ -1,4 +1,4 @@
-// All words of refusals, in tables of one line each, counted from 1. %1 to %4 stand for a number and %5 to %7 for a part of the deck.
+// All words of refusals, in tables of one line each, counted from 1. %1 to %4 stand for a number and %5 to %7 for a part of the deck or file.
 // The first two go by the refusal's number; README.md, man/report.1 and the header say the same, and tests/refusals holds them to these.
 use crate::text::put_words;
 use findings::Found;
@@ -25,7 +25,7 @@ the sources have too little room for a group
 too little headroom for a group's credit
 the lent buffer is too short (calls only)
 the hour record is one that no deck gives (calls only)
-a record of a spreadsheet file is not of its form, missing or out of order (no call reads files yet)",
+a record of a spreadsheet file is not of its form, missing or out of order",
         said(number),
     )
 }
@@ -49,9 +49,9 @@ a source is missing, or a delivery too many
 give one delivery a number
 the group's deliveries are more than can be unloaded; check them and the D lines
 the group's D lines take more than it is due; check them
-lend 4,160 cells, 131,072 bytes for a report, or 64 numbers for labels
+lend 4,160 cells, 131,072 bytes for a report, 147,456 for a spreadsheet file, or 64 numbers for labels
 make records by reading decks
-have the file written anew",
+have the file written anew from its deck; one that a spreadsheet program opened and saved is no longer as it was written",
         said(number),
     )
 }
@@ -69,7 +69,9 @@ the line:
 (empty)
  ..
 found: 
-what to do: ",
+what to do: 
+refused %1, record %2: 
+the record: ",
         x,
     )
 }
@@ -89,6 +91,10 @@ pub const CUT: usize = 6;
 pub const FOUND: usize = 7;
 
 pub const ADVICE: usize = 8;
+
+pub const REFUSED_RECORD: usize = 9;
+
+pub const THE_RECORD: usize = 10;
 
 // The form of a line, by its letter's place among H, U, P, F, T, D and E.
 pub fn put_form(out: &mut [u8], at: usize, letter: usize) -> usize {
@@ -189,7 +195,15 @@ unit \"%5\": the basis %7 is not below its high %1
 with this line the percents of unit \"%5\" come to %1
 losses %1 and deliveries %2 are %3 MWh above generation %4
 no T line has a sequence of 1 to 99
-%1 MWh short for the deliveries",
+%1 MWh short for the deliveries
+the file is empty
+the file begins with a byte order mark (bytes EF BB BF)
+the file ends before its end record: it is cut off
+something stands after the end record, be it an empty line
+the file ends within this record: it is cut off, or its last CR LF is missing
+the record ends in LF alone: records end in CR LF
+byte %1 is a semicolon: fields stand between commas
+the first record is not the header, kind,delivery,number,source,n1,n2,n3,n4",
         x,
     )
 }

@@ -57,11 +57,23 @@ returns-2 c = search needs
 sub-if4 : tie.Need-sub-if4 Inv-loop μ-loop
 sub-if4 c = search needs
 
-add-t25 : tie.Need-add-t25 Inv-loop μ-loop
-add-t25 c = search needs
+sub-asked : tie.Need-sub-asked Inv-loop μ-loop
+sub-asked c = search needs
 
-add-t27 : tie.Need-add-t27 Inv-loop μ-loop
-add-t27 c = search needs
+part-asked-start : tie.Need-part-asked-start Inv-loop μ-loop
+part-asked-start c = search needs
+
+part-asked-end : tie.Need-part-asked-end Inv-loop μ-loop
+part-asked-end c = search needs
+
+asked-requires : tie.Need-asked-requires Inv-loop μ-loop
+asked-requires c κs = search needs
+
+add-rest : tie.Need-add-rest Inv-loop μ-loop
+add-rest c = search needs
+
+add-upto : tie.Need-add-upto Inv-loop μ-loop
+add-upto c = search needs
 
 same-length-3 : tie.Need-same-length-3 Inv-loop μ-loop
 same-length-3 c = search needs
@@ -126,8 +138,12 @@ next-spec =
     same-length-2
     returns-2
     sub-if4
-    add-t25
-    add-t27
+    sub-asked
+    part-asked-start
+    part-asked-end
+    asked-requires
+    add-rest
+    add-upto
     same-length-3
     returns-3
     to-front-requires-2
