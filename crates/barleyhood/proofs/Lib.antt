@@ -4,6 +4,7 @@ pub mod OneOutcome
 pub mod TwoCallsAgree
 pub mod FilesReadBack
 pub mod CodesTell
+pub mod EnoughIsLent
 pub mod MentionsAreNotLabels
 pub mod AccountsCloseOverTheCells
 pub mod RefusedCallsChangeNothing

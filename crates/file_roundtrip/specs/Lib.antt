@@ -4,3 +4,4 @@ pub mod QuotedLabels
 pub mod Records
 pub mod RecordsInTurn
 pub mod FileRoundTrip
+pub mod LinesAreShort

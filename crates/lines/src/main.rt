@@ -14,7 +14,7 @@ const MOST: usize = 1048576;
 // A byte more, which tells a file that is too long.
 const WINDOW: usize = MOST + 1;
 
-// Doubled backslashes make a line longer than its record, but never twice as long.
+// A file's lines have at most twice its bytes (file_roundtrip's LinesAreShort).
 const ROOM: usize = 2 * MOST;
 
 // Zeros, so many that the checker must not count them: a caller knows their number by these contracts.
