@@ -92,6 +92,23 @@ uint64_t barleyhood_labels(const uint8_t *deck, size_t length, uint64_t *places,
 
 #define BARLEYHOOD_LABELS 64
 
+/* The allocations of the deck's hour as a spreadsheet file, written from the first lent byte on, and how many bytes it has, with no 0 after them; the
+   lent bytes after it stay as they are. The file is RFC 4180 text: the record `kind,delivery,number,source,n1,n2,n3,n4`, then one for each line of the
+   report, of the kind hour, delivery, internal or end, its amounts from n1 on. Every label stands between quotes, by its characters, a quote doubled and
+   every space kept. A deck that is refused, or whose hour meets 12 or 13, has no file. With fewer bytes lent than there are to write the call is
+   refused (14), after any other refusal; BARLEYHOOD_SPREADSHEET are always enough. */
+uint64_t barleyhood_spreadsheet(const uint8_t *deck, size_t length, uint8_t *text, size_t lent);
+
+/* The lines of a spreadsheet file as the report prints them, written from the first lent byte on, and how many bytes they have, with no 0 after them;
+   the lent bytes after them stay as they are. The file is lent as a deck is, with any length. Only what barleyhood_spreadsheet could have written for
+   some lines is read: one hour, any deliveries, any internals, one end, of any labels and any numbers of 64 signed bits. Any other file is refused (16)
+   at the record that is not of its form, missing or out of order, the header's number being 1. With fewer bytes lent than there are to write the call
+   is refused (14), after 16; twice the file's bytes are always enough, and BARLEYHOOD_REPORT for a file of barleyhood_spreadsheet. */
+uint64_t barleyhood_spreadsheet_lines(const uint8_t *file, size_t length, uint8_t *text, size_t lent);
+
+/* A number of bytes that no file of an hour passes. */
+#define BARLEYHOOD_SPREADSHEET 147456
+
 /* Of a label's place: the offset of its first byte, and its number of bytes. */
 #define BARLEYHOOD_OFFSET(label) ((uint32_t)((uint64_t)(label) >> 32))
 #define BARLEYHOOD_LENGTH(label) ((uint32_t)(label))

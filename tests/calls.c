@@ -3,11 +3,8 @@
    (DECKS-ANEW, FILES). Each call is made on buffers longer than, as long as and shorter than its answer, or than the cells that an hour refused with 12
    or 13 would have, and on an empty one; every 50th hour record, of accepted hours and of those, is spoiled in one field after another. All memory lent
    to a call is looked at after it. */
-#include <inttypes.h>
-#include <stdbool.h>
-#include <stdio.h>
-#include <stdlib.h>
-#include <string.h>
+#define PROGRAM "calls"
+#include "frames.h"
 
 uint64_t trial_cells(const uint8_t *deck, size_t n, bool by_price, int64_t *out, size_t cells);
 uint64_t trial_written(const uint8_t *deck, size_t n, uint8_t *out, size_t bytes);
@@ -18,67 +15,7 @@ uint64_t trial_spoiled_spreadsheet(const uint8_t *deck, size_t n, size_t field, 
 
 enum { CELLS = 4160, ROOM = 8200, FILE_ROOM = 147456 + 8, FIELDS = 27, ENTRIES = 32 };
 
-#define REFUSAL(number, place) (((uint64_t)(number) << 32) + (place))
 static const uint64_t SHORT = REFUSAL(14, 0), NO_DECK = REFUSAL(15, 0);
-
-static size_t frame;
-
-static void wrong(const char *what) {
-    fprintf(stderr, "calls: frame %zu: %s\n", frame, what);
-    exit(1);
-}
-
-struct text {
-    uint8_t *bytes;
-    size_t size, at;
-};
-
-static struct text whole(const char *name) {
-    FILE *f = fopen(name, "rb");
-    if (!f || fseek(f, 0, SEEK_END)) {
-        perror(name);
-        exit(1);
-    }
-    struct text t = {0};
-    t.size = (size_t)ftell(f);
-    rewind(f);
-    t.bytes = malloc(t.size + 1);
-    if (!t.bytes || fread(t.bytes, 1, t.size, f) != t.size) {
-        perror(name);
-        exit(1);
-    }
-    t.bytes[t.size] = 0;
-    fclose(f);
-    return t;
-}
-
-struct part {
-    const uint8_t *bytes;
-    size_t size;
-};
-
-static bool stands(const struct text *t, const char *word) { return !strncmp((char *)t->bytes + t->at, word, strlen(word)); }
-
-/* The next frame: its word, a space, its size and LF, then its bytes. */
-static bool next(struct text *t, const char *word, struct part *p) {
-    if (t->at == t->size) return false;
-    char *end;
-    size_t skip = strlen(word);
-    if (!stands(t, word)) wrong("no frame where one must stand");
-    p->size = strtoull((char *)t->bytes + t->at + skip, &end, 10);
-    p->bytes = (uint8_t *)end + 1;
-    t->at = (size_t)(p->bytes - t->bytes) + p->size;
-    if (*end != '\n' || t->at > t->size) wrong("a frame that is cut off");
-    return true;
-}
-
-/* What a line `refused N P` says, or 0. */
-static uint64_t refusal(struct part p) {
-    if (p.size < 9 || memcmp(p.bytes, "refused ", 8)) return 0;
-    char *end;
-    uint64_t number = strtoull((const char *)p.bytes + 8, &end, 10);
-    return REFUSAL(number, strtoull(end, NULL, 10));
-}
 
 /* By the plain rule, by price, written anew, or as a spreadsheet file. */
 enum call { PLAIN, PRICE, WRITTEN, FILED };
