@@ -1,5 +1,5 @@
-/* Times the proved calls beside two C versions of the same work, one plainly written (deck.c, plain.c, print.c) and one written for speed
-   (quick.c, hour.c, report.c), in one run, turn by turn, so that all meet the same machine.
+/* Times the proved calls beside two C versions of the same work, one plainly written (deck.c, plain.c, print.c, file.c) and one written for speed
+   (quick.c, hour.c, report.c, quick_file.c), in one run, turn by turn, so that all meet the same machine.
    bench DECK..: a table for each deck. bench alone: how price and plain grow with MWh, sources and groups. */
 #define _POSIX_C_SOURCE 199309L
 #include <stdio.h>
@@ -8,6 +8,7 @@
 #include <time.h>
 
 #include "barleyhood.h"
+#include "file.h"
 #include "hour.h"
 #include "report.h"
 
@@ -20,13 +21,19 @@ enum { DECK = 8192, TURNS = 101, MOST_WORKS = 8, CALLS = 8 };
 static uint8_t deck[DECK];
 static size_t size;
 static int64_t cells[MOST_CELLS];
-static uint8_t text[MOST_REPORT];
+static uint8_t text[MOST_FILE];
+
+/* The deck's spreadsheet file, for its lines; empty where the deck has none. */
+static uint8_t file[MOST_FILE];
+static size_t file_size;
 
 /* Each answers a number that depends on the whole work. */
 static uint64_t proved_read(void) { return barleyhood_check(deck, size); }
 static uint64_t proved_price(void) { return barleyhood_price(deck, size, cells, MOST_CELLS) + (uint64_t)cells[0]; }
 static uint64_t proved_plain(void) { return barleyhood_plain(deck, size, cells, MOST_CELLS) + (uint64_t)cells[0]; }
 static uint64_t proved_report(void) { return barleyhood_report(deck, size, text, MOST_REPORT); }
+static uint64_t proved_file(void) { return barleyhood_spreadsheet(deck, size, text, MOST_FILE); }
+static uint64_t proved_lines(void) { return barleyhood_spreadsheet_lines(file, file_size, text, MOST_REPORT); }
 
 /* The proved side reads the deck in the same call: from record to cells is the time of CALLS + 1 hours less that of one, by CALLS. */
 static uint64_t proved_prices(void) { return trial_price(deck, size, cells, MOST_CELLS, CALLS + 1) + (uint64_t)cells[0]; }
@@ -54,10 +61,14 @@ static uint64_t plain_c_read(void) { return c_hour(read_plainly); }
 static uint64_t plain_c_price(void) { return c_cells(read_plainly, rebuild_plainly, 1); }
 static uint64_t plain_c_plain(void) { return c_cells(read_plainly, rebuild_plainly, 0); }
 static uint64_t plain_c_report(void) { return report_plainly(deck, size, text, MOST_REPORT); }
+static uint64_t plain_c_file(void) { return file_plainly(deck, size, text, MOST_FILE); }
+static uint64_t plain_c_lines(void) { return lines_plainly(file, file_size, text, MOST_REPORT); }
 static uint64_t quick_c_read(void) { return c_hour(read_deck); }
 static uint64_t quick_c_price(void) { return c_cells(read_deck, rebuild, 1); }
 static uint64_t quick_c_plain(void) { return c_cells(read_deck, rebuild, 0); }
 static uint64_t quick_c_report(void) { return report(deck, size, text, MOST_REPORT); }
+static uint64_t quick_c_file(void) { return file_of(deck, size, text, MOST_FILE); }
+static uint64_t quick_c_lines(void) { return lines_of(file, file_size, text, MOST_REPORT); }
 
 /* Hours read before, each by its own reader. */
 static struct hour plain_c_hour, quick_c_hour;
@@ -128,20 +139,29 @@ static void hold_cells(void) {
     }
 }
 
-/* Every report must have the same bytes. */
-static void hold_reports(void) {
-    static work *const w[] = {proved_report, plain_c_report, quick_c_report};
-    static uint8_t first[MOST_REPORT];
+/* Three texts must have the same bytes; gives how many. */
+static uint64_t hold_texts(const char *name, work *const w[3]) {
+    static uint8_t first[MOST_FILE];
     uint64_t length = 0;
-    for (size_t k = 0; k < sizeof w / sizeof *w; k++) {
+    for (size_t k = 0; k < 3; k++) {
         memset(text, 0, sizeof text);
         uint64_t n = w[k]();
         if (k == 0) length = n, memcpy(first, text, sizeof text);
         if (n != length || memcmp(text, first, sizeof text)) {
-            fprintf(stderr, "bench: the reports differ (%zu)\n", k);
+            fprintf(stderr, "bench: the %s differ (%zu)\n", name, k);
             exit(1);
         }
     }
+    return length;
+}
+
+/* Every report, every file, which is kept for the rows of lines, and every file's lines. */
+static void hold_all_texts(void) {
+    hold_texts("reports", (work *const[]){proved_report, plain_c_report, quick_c_report});
+    uint64_t n = hold_texts("files", (work *const[]){proved_file, plain_c_file, quick_c_file});
+    file_size = n >> 32 ? 0 : (size_t)n;
+    memcpy(file, text, file_size);
+    hold_texts("lines", (work *const[]){proved_lines, plain_c_lines, quick_c_lines});
 }
 
 /* One row: its works in turn, by themselves. Where the proved work is of CALLS + 1 hours, `one` is of one. */
@@ -167,7 +187,7 @@ static void table(const char *name) {
     size = fread(deck, 1, DECK, f);
     fclose(f);
     hold_cells();
-    hold_reports();
+    hold_all_texts();
     printf("\n%s, %zu bytes:\n\n| work | proved, ns | plain C, ns | ratio | C for speed, ns | ratio |\n|---|---|---|---|---|---|\n", name, size);
     row("reading", proved_read, 0, plain_c_read, quick_c_read);
     row("deck to cells, by price", proved_price, 0, plain_c_price, quick_c_price);
@@ -175,6 +195,8 @@ static void table(const char *name) {
     row("record to cells, by price", proved_prices, proved_one_price, plain_c_record_price, quick_c_record_price);
     row("record to cells, one MWh at a time", proved_plains, proved_one_plain, plain_c_record_plain, quick_c_record_plain);
     row("deck to report", proved_report, 0, plain_c_report, quick_c_report);
+    row("deck to spreadsheet file", proved_file, 0, plain_c_file, quick_c_file);
+    row("spreadsheet file to lines", proved_lines, 0, plain_c_lines, quick_c_lines);
 }
 
 /* An hour of so many like units, one delivery of so many MWh in each of so many groups. */

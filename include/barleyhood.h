@@ -1,9 +1,10 @@
 /* Barleyhood splits the generation cost of one hour of a power pool among its deliveries.
 
-   Every call reads a deck, the text that states the hour, lent as its first byte and its length. A null pointer is
-   fine where the length is 0. Nothing is kept between calls and nothing is allocated, so calls may run side by side;
-   a call writes only into the cells, bytes or numbers lent to it, which must not overlap the deck. The report takes about 80 KiB of
-   the stack, a reconstruction 46 KiB, barleyhood_check 3 KiB, any other call 26 KiB.
+   Every call reads a deck, the text that states the hour, or, the last one, a spreadsheet file; either is lent as its first byte
+   and its length. A null pointer is fine where the length is 0. Nothing is kept between calls and nothing is allocated, so calls
+   may run side by side; a call writes only into the cells, bytes or numbers lent to it, which must not overlap what it reads. The
+   report and the spreadsheet file of a deck take about 80 KiB of the stack, a reconstruction 46 KiB, barleyhood_check and
+   barleyhood_spreadsheet_lines 3 KiB, any other call 26 KiB.
 
    An answer below 2^32 is what was asked for. Any other is a refusal: its number times 2^32, and its place.
    A refused call has written nothing. */
@@ -19,14 +20,15 @@
 extern "C" {
 #endif
 
-/* The number of a refusal, 0 for any other answer, and the refusal's place: a line of the deck, an internal sequence number, or 0. */
+/* The number of a refusal, 0 for any other answer, and the refusal's place: a line of the deck, an internal sequence number, a record
+   of the file, or 0. */
 #define BARLEYHOOD_NUMBER(answer) ((uint32_t)((uint64_t)(answer) >> 32))
 #define BARLEYHOOD_PLACE(answer) ((uint32_t)(answer))
 
-/* The numbers of the refusals, with the place of each: 0, a line of the deck, a group by its internal number, or a record of a file. barleyhood_check
-   tells 1 to 11, and so does every call that reads the deck but barleyhood_report and the two for one label; barleyhood_labels goes
-   on with 14, the reconstructions with 14, then 12 or 13. 15 is of hour records, which no call here takes, 16 of spreadsheet
-   files, which none reads yet. */
+/* The numbers of the refusals, with the place of each: 0, a line of the deck, a group by its internal number, or a record of the
+   file, the header's being 1. barleyhood_check tells 1 to 11, and so does every call that reads the deck but barleyhood_report and
+   the two for one label; barleyhood_labels goes on with 14, the reconstructions with 14, then 12 or 13, barleyhood_spreadsheet with
+   12 or 13, then 14. barleyhood_spreadsheet_lines tells 16, then 14. 15 is of hour records, which no call here takes. */
 enum {
     BARLEYHOOD_TOO_LONG = 1,     /* the deck has more than 8,192 bytes: 0 */
     BARLEYHOOD_FORM = 2,         /* a line is not of its form or out of order, or LF or E is missing: line */
@@ -95,6 +97,26 @@ uint64_t barleyhood_labels(const uint8_t *deck, size_t length, uint64_t *places,
 /* Of a label's place: the offset of its first byte, and its number of bytes. */
 #define BARLEYHOOD_OFFSET(label) ((uint32_t)((uint64_t)(label) >> 32))
 #define BARLEYHOOD_LENGTH(label) ((uint32_t)(label))
+
+/* The allocations of the deck's hour as a spreadsheet file, written from the first lent byte on, and how many bytes it has, with no 0
+   after them; the lent bytes after it stay as they are. It is RFC 4180 text: the header kind,delivery,number,source,n1,n2,n3,n4, then
+   a record of eight fields for each line of the report, its kind hour, delivery, internal or end, its amounts from n1 on, unused
+   fields empty. Every record ends in CRLF. Every label stands between quotes by its characters, each space kept, a quote doubled, a
+   backslash single. A deck that is refused has no file, nor has an hour that meets 12 or 13. After all these comes 14, where fewer
+   bytes are lent than there are to write; BARLEYHOOD_SPREADSHEET are always enough. */
+uint64_t barleyhood_spreadsheet(const uint8_t *deck, size_t length, uint8_t *text, size_t lent);
+
+/* The lines of a spreadsheet file as the report prints them, written from the first lent byte on, and how many bytes they have, with
+   no 0 after them; the lent bytes after them stay as they are. Only the exact writing of one hour, any deliveries, any internals and
+   one end is read; the labels and the numbers, of 64 signed bits, may be any, and need not fit each other. Any other file is refused
+   (16) at the first record that is not of its form, missing or out of order. After that comes 14, where fewer bytes are lent than there
+   are to write; twice the file's bytes are always enough, and BARLEYHOOD_REPORT for a file that barleyhood_spreadsheet wrote. A file
+   may have any length; a count and a refusal are told apart where fewer than 2^32 bytes are lent, and the place is the record's where
+   the file has fewer than 2^32 - 1 bytes. */
+uint64_t barleyhood_spreadsheet_lines(const uint8_t *file, size_t length, uint8_t *text, size_t lent);
+
+/* A number of bytes that no file of an hour passes. */
+#define BARLEYHOOD_SPREADSHEET 147456
 
 #ifdef __cplusplus
 }

@@ -1,5 +1,5 @@
 /* The calls of include/barleyhood.h at their edges: null pointers, refusals, buffers too short and longer than the answer, labels that are there
-   and that are not, one by one and all at once. */
+   and that are not, one by one and all at once, spreadsheet files and what is none. */
 #include <stdio.h>
 #include <string.h>
 
@@ -16,6 +16,10 @@ static void same(const char *what, uint64_t got, uint64_t must) {
 #define REFUSAL(number, place) (((uint64_t)(number) << 32) + (place))
 #define DECK(text) (const uint8_t *)(text), strlen(text)
 #define SOURCES "H 10\nU 100 120 40 30 20 20 50000 9000 10 10000 \"U1\"\nP 30 95000 \"a\\\"b\"\n"
+
+/* Of a spreadsheet file: the first record and the last. */
+#define HEADER "kind,delivery,number,source,n1,n2,n3,n4\r\n"
+#define END "end,,,,,,,\r\n"
 
 enum { ROOM = BARLEYHOOD_CELLS + 8 };
 static int64_t price[ROOM], plain[ROOM];
@@ -70,16 +74,35 @@ static const char *deck_of(int sources, int deliveries) {
     return deck;
 }
 
-/* A deck's report into a buffer one byte short of it, just as long, and longer. */
-static void report(const char *what, const char *deck, const char *must) {
-    static uint8_t text[BARLEYHOOD_REPORT];
-    const size_t n = strlen(must), rooms[] = {n - 1, n, sizeof text};
-    for (int i = 0; i < 3; i++) {
-        memset(text, 'x', sizeof text);
-        same(what, barleyhood_report(DECK(deck), text, rooms[i]), i ? n : REFUSAL(BARLEYHOOD_SHORT, 0));
-        if (i) same(what, memcmp(text, must, n) != 0, 0);
-        for (size_t k = i ? n : 0; k < sizeof text; k++) same(what, text[k], 'x');
-    }
+/* Each makes a text of a text. */
+typedef uint64_t text_call(const uint8_t *from, size_t length, uint8_t *text, size_t lent);
+
+enum { TEXT = BARLEYHOOD_SPREADSHEET + 8 };
+static uint8_t text[TEXT];
+
+/* A text into so many bytes; past the count nothing may change. */
+static void one_text(const char *what, text_call *made, const char *from, size_t lent, uint64_t must, const char *answer) {
+    memset(text, 'x', TEXT);
+    same(what, made(DECK(from), text, lent), must);
+    const size_t count = BARLEYHOOD_NUMBER(must) ? 0 : (size_t)must;
+    same(what, memcmp(text, answer, count) != 0, 0);
+    for (size_t k = count; k < TEXT; k++) same(what, text[k], 'x');
+}
+
+/* A text into no byte, a buffer one byte short of it, just as long, and longer. */
+static void texts(const char *what, text_call *made, const char *from, const char *must) {
+    const size_t n = strlen(must);
+    one_text(what, made, from, 0, REFUSAL(BARLEYHOOD_SHORT, 0), must);
+    one_text(what, made, from, n - 1, REFUSAL(BARLEYHOOD_SHORT, 0), must);
+    one_text(what, made, from, n, n, must);
+    one_text(what, made, from, TEXT, n, must);
+}
+
+/* A text that is refused, before 14. */
+static void no_text(const char *what, text_call *made, const char *from, uint64_t must) {
+    one_text(what, made, from, TEXT, must, "");
+    one_text(what, made, from, 1, must, "");
+    one_text(what, made, from, 0, must, "");
 }
 
 static void nothing_lent(void) {
@@ -95,6 +118,10 @@ static void nothing_lent(void) {
     same("no labels", barleyhood_labels(DECK("H 0\nE\n"), NULL, 0), 0);
     same("no numbers, labels", barleyhood_labels(DECK(SOURCES "E\n"), NULL, 0), REFUSAL(BARLEYHOOD_SHORT, 0));
     same("no deck, report", barleyhood_report(NULL, 0, NULL, 0), REFUSAL(BARLEYHOOD_SHORT, 0));
+    same("no deck, file", barleyhood_spreadsheet(NULL, 0, NULL, 0), empty);
+    same("no buffer, file", barleyhood_spreadsheet(DECK("H 0\nE\n"), NULL, 0), REFUSAL(BARLEYHOOD_SHORT, 0));
+    same("no file", barleyhood_spreadsheet_lines(NULL, 0, NULL, 0), REFUSAL(BARLEYHOOD_FILE_RECORD, 1));
+    same("no buffer, lines", barleyhood_spreadsheet_lines(DECK(HEADER "hour,,,,0,0,0,0\r\n" END), NULL, 0), REFUSAL(BARLEYHOOD_SHORT, 0));
     same("no cells to write, price", barleyhood_price(DECK("H 0\nE\n"), NULL, 0), 0);
     same("no cells to write, plain", barleyhood_plain(DECK("H 0\nE\n"), NULL, 0), 0);
     same("no buffer, price", barleyhood_price(DECK(SOURCES "E\n"), NULL, 0), REFUSAL(BARLEYHOOD_SHORT, 0));
@@ -117,8 +144,59 @@ static void refusals(void) {
     cells("headroom", SOURCES "T 30 1 1 9 \"X\"\nD 30 100 \"U1\" \"X\"\nE\n", ROOM, REFUSAL(BARLEYHOOD_NO_HEADROOM, 300));
 }
 
+static void refused_files(void) {
+    static const struct {
+        const char *what, *file;
+        uint32_t record;
+    } none[] = {
+        {"no header", "hour,,,,0,0,0,0\r\n" END, 1},
+        {"a header alone", HEADER, 2},
+        {"a header that ends in LF", "kind,delivery,number,source,n1,n2,n3,n4\nhour,,,,0,0,0,0\r\n" END, 1},
+        {"no hour", HEADER END, 2},
+        {"two hours", HEADER "hour,,,,0,0,0,0\r\nhour,,,,0,0,0,0\r\n" END, 3},
+        {"no end", HEADER "hour,,,,0,0,0,0\r\n", 3},
+        {"an end cut off", HEADER "hour,,,,0,0,0,0\r\nend,,,,,,,\r", 3},
+        {"a byte after the end", HEADER "hour,,,,0,0,0,0\r\n" END "\n", 4},
+        {"a delivery after an internal", HEADER "hour,,,,0,0,0,0\r\ninternal,,,\"U\",0,0,,\r\ndelivery,\"X\",0,\"U\",0,0,0,\r\n" END, 4},
+        {"a label without quotes", HEADER "hour,,,,0,0,0,0\r\ninternal,,,U,0,0,,\r\n" END, 3},
+        {"a quote that is not doubled", HEADER "hour,,,,0,0,0,0\r\ninternal,,,\"a\"b\",0,0,,\r\n" END, 3},
+        {"a leading zero", HEADER "hour,,,,0,0,0,00\r\n" END, 2},
+        {"a number beyond 64 bits", HEADER "hour,,,,0,0,0,9223372036854775808\r\n" END, 2},
+    };
+    for (size_t i = 0; i < sizeof none / sizeof *none; i++)
+        no_text(none[i].what, barleyhood_spreadsheet_lines, none[i].file, REFUSAL(BARLEYHOOD_FILE_RECORD, none[i].record));
+    no_text("no file of an overdrawn deck", barleyhood_spreadsheet, "H 1\nE\n", REFUSAL(BARLEYHOOD_OVERDRAWN, 0));
+    no_text("no file without headroom", barleyhood_spreadsheet, SOURCES "T 30 1 1 9 \"X\"\nD 30 100 \"U1\" \"X\"\nE\n", REFUSAL(BARLEYHOOD_NO_HEADROOM, 300));
+}
+
+static void files(const char *deck, const char *report) {
+    const char *file = HEADER "hour,,,,130,10,80,40\r\n"
+                              "delivery,\"X\",300,\"U1\",0,50,9750000000,\r\n"
+                              "delivery,\"X\",300,\"a\"\"b\",0,10,1900000000,\r\n"
+                              "delivery,\"X \",280,\"U1\",15,0,3245000000,\r\n"
+                              "delivery,\"X \",280,\"a\"\"b\",0,5,950000000,\r\n"
+                              "internal,,,\"U1\",35,7005000000,,\r\n"
+                              "internal,,,\"a\"\"b\",15,2850000000,,\r\n" END;
+    texts("the deck's file", barleyhood_spreadsheet, deck, file);
+    texts("the file's lines", barleyhood_spreadsheet_lines, file, report);
+    texts("a file of no labels", barleyhood_spreadsheet, "H 0\nE\n", HEADER "hour,,,,0,0,0,0\r\n" END);
+    texts("labels with spaces, a comma, a backslash", barleyhood_spreadsheet, "H 0\nF 1 \" a,  \\\\ \"\nE\n",
+          HEADER "hour,,,,1,0,0,1\r\ninternal,,,\" a,  \\ \",1,0,,\r\n" END);
+    texts("lines of any numbers", barleyhood_spreadsheet_lines,
+          HEADER "hour,,,,9223372036854775807,-9223372036854775808,0,-1\r\ndelivery,\"\\\",-7,\"\"\"\",0,0,0,\r\n" END,
+          "hour 9223372036854775807 -9223372036854775808 0 -1\n\"\\\\\" -7 \"\\\"\" 0 0 0\nend\n");
+}
+
 static void answers(void) {
     const char *deck = SOURCES "T 30 1 1 60 \"X\"\nT 28 1 1 20 \"X \"\nD 30 50 \"U1\" \"X \"\nE\n";
+    const char *report = "hour 130 10 80 40\n"
+                         "\"X\" 300 \"U1\" 0 50 9750000000\n"
+                         "\"X\" 300 \"a\\\"b\" 0 10 1900000000\n"
+                         "\"X \" 280 \"U1\" 15 0 3245000000\n"
+                         "\"X \" 280 \"a\\\"b\" 0 5 950000000\n"
+                         "internal \"U1\" 35 7005000000\n"
+                         "internal \"a\\\"b\" 15 2850000000\n"
+                         "end\n";
     same("check", barleyhood_check(DECK(deck)), 0);
     same("sources", barleyhood_sources(DECK(deck)), 2);
     same("deliveries", barleyhood_deliveries(DECK(deck)), 2);
@@ -142,16 +220,9 @@ static void answers(void) {
     labels("sources alone, labels", deck_of(3, 0), 3, 3);
     labels("one number short of all labels", deck_of(32, 32), BARLEYHOOD_LABELS - 1, REFUSAL(BARLEYHOOD_SHORT, 0));
     labels("all labels", deck_of(32, 32), BARLEYHOOD_LABELS, BARLEYHOOD_LABELS);
-    report("report", deck,
-           "hour 130 10 80 40\n"
-           "\"X\" 300 \"U1\" 0 50 9750000000\n"
-           "\"X\" 300 \"a\\\"b\" 0 10 1900000000\n"
-           "\"X \" 280 \"U1\" 15 0 3245000000\n"
-           "\"X \" 280 \"a\\\"b\" 0 5 950000000\n"
-           "internal \"U1\" 35 7005000000\n"
-           "internal \"a\\\"b\" 15 2850000000\n"
-           "end\n");
-    report("report of no deck", "", "refused 2 1\n");
+    texts("report", barleyhood_report, deck, report);
+    texts("report of no deck", barleyhood_report, "", "refused 2 1\n");
+    files(deck, report);
     cells("a credit", SOURCES "T 30 1 1 10 \"X\"\nD 30 100 \"U1\" \"X\"\nE\n", ROOM, 12);
     same("credited MWh", (uint64_t)price[1], (uint64_t)-20);
     same("credited cost", (uint64_t)price[3], (uint64_t)-4040000000);
@@ -160,6 +231,7 @@ static void answers(void) {
 int main(void) {
     nothing_lent();
     refusals();
+    refused_files();
     answers();
     return wrong;
 }

@@ -151,8 +151,9 @@ END
     chmod +x "$work/bin/clang"
 }
 
-# Functions that are compiled into their callers, whatever their size: those that read or write one field, try one line or tell one cost.
-inlined='(read_fields|read_lines|line_rules|ranges|curve|moves|write_fields|write_amounts|print_lines|write_records)::[a-z_]*|deck::[a-z]*_at|record::[a-z]*_stands|record::shape::[a-z_]*'
+# Functions that are compiled into their callers, whatever their size: those that read or write one field, record or line, try one
+# line or tell one cost.
+inlined='(read_fields|read_lines|line_rules|ranges|curve|moves|write_fields|write_amounts|print_lines|write_records|read_records)::[a-z_]*|print_file::(put_[a-z]*|line_length)|deck::[a-z]*_at|record::[a-z]*_stands|record::shape::[a-z_]*'
 
 # The kept module compiled to an object. Its functions name a processor of x86-64; without the name it is compiled for any processor of the
 # machine's kind, or as the options say.

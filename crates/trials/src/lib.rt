@@ -1,6 +1,6 @@
-// For tests from C: a deck's hour reconstructed into lent cells by either rule and written anew as a deck, also from a record that is spoiled in one field;
-// and for timing one hour and one group.
-// An answer is the number of cells or bytes, or a refusal's number times 65,536 and its place.
+// For tests from C: a deck's hour reconstructed into lent cells by either rule, written anew as a deck and as a spreadsheet file, also from a record that is
+// spoiled in one field; and for timing one hour and one group.
+// An answer is the number of cells or bytes, or refusals' code of a refusal.
 mod rebuilding;
 mod settling;
 
@@ -13,21 +13,16 @@ use rules::Hour;
 use rules::InputSequence;
 use rules::Label;
 use rules::Plant;
-use rules::Refusal;
 use rules::Source;
 use rules::Unit;
 use rules::Verdict;
 use rules::Written;
 ghost use Prim.Native.Nat.{_<_};
 
-fn refusal_code(r: Refusal) -> u64 {
-    (refusals::number_of(r) % 256) * 65536 + (refusals::place_of(r) as u64) % 65536
-}
-
 fn answer_code(x: Written) -> u64 {
     match x {
         Written::Count(n) => n as u64,
-        Written::Refused(r) => refusal_code(r),
+        Written::Refused(r) => refusals::code_of(r),
     }
 }
 
@@ -45,7 +40,7 @@ pub extern "C" fn trial_cells(deck: &[u8], by_price: bool, out: &mut [i64]) -> u
     let h = x.hour;
     match v {
         Verdict::Accepted => answered(h, out, by_price),
-        Verdict::Refused(r) => refusal_code(r),
+        Verdict::Refused(r) => refusals::code_of(r),
     }
 }
 
@@ -60,7 +55,22 @@ pub extern "C" fn trial_written(deck: &[u8], out: &mut [u8]) -> u64 {
     let h = x.hour;
     match v {
         Verdict::Accepted => written(h, out),
-        Verdict::Refused(r) => refusal_code(r),
+        Verdict::Refused(r) => refusals::code_of(r),
+    }
+}
+
+fn filed(h: Hour, out: &mut [u8]) -> u64 {
+    answer_code(write_spreadsheet::spreadsheet(h, out))
+}
+
+#[no_mangle]
+pub extern "C" fn trial_spreadsheet(deck: &[u8], out: &mut [u8]) -> u64 {
+    let x = deck::read(deck);
+    let v = x.verdict;
+    let h = x.hour;
+    match v {
+        Verdict::Accepted => filed(h, out),
+        Verdict::Refused(r) => refusals::code_of(r),
     }
 }
 
@@ -273,6 +283,17 @@ pub extern "C" fn trial_spoiled_written(
 ) -> u64 {
     let x = deck::read(deck);
     written(spoiled(x.hour, field, at % 32), out)
+}
+
+#[no_mangle]
+pub extern "C" fn trial_spoiled_spreadsheet(
+    deck: &[u8],
+    field: usize,
+    at: usize,
+    out: &mut [u8],
+) -> u64 {
+    let x = deck::read(deck);
+    filed(spoiled(x.hour, field, at % 32), out)
 }
 
 // The hour's cells so many times over: 0 where the deck is refused.
