@@ -1,5 +1,7 @@
 // Every public call of Barleyhood, with what it promises on each input: an equation for its result and for all lent memory.
 // The definitions cited are rules' (crates/rules/specs); an answer's enum is the case for each outcome.
+#![tactic(auto)]
+
 mod linked;
 
 ghost use Rattle.std.specs.Prelude.{◌≡◌, ◌+◌, length};

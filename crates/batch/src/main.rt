@@ -2,6 +2,8 @@
 // the M bytes of its report on standard output, as soon as the frame is there; for one with `spreadsheet` in its head the same with `spreadsheet` and
 // the deck's spreadsheet file, unless it is refused. A frame that is not of its form ends the run with a line `frame` and its number from 1. On
 // descriptor 3 goes how the run ended, and on 4, where somebody watches, how many decks are done.
+#![tactic(auto)]
+
 use frames::{Coming, Ending};
 use rules::Written;
 use words::WORDS;

@@ -1,5 +1,7 @@
 // Costs in grains, lows, room and headroom of a source, and its open energy lowered or raised.
 // The contracts cite rules' Units and Group, merit's NumbersStaySmall for what fits, and specs/ for the enums.
+#![tactic(auto)]
+
 ghost use Rattle.std.specs.Prelude.{◌≡◌, ◌+◌, ◌-◌, ◌*◌, ◌/◌, ◌≤◌, ◌<◌, max};
 ghost use Rattle.rules.specs.Answers.{cost_answer};
 ghost use Rattle.rules.specs.Units.{heat, curve_cost, cost, movable, normal_low, cost_asked};
@@ -10,7 +12,7 @@ ghost use Rattle.curve.specs.Rungs.{rung_of, low_at};
 use rules::{CostAnswer, HeatCurve, Plant, Refusal, Running};
 
 // The ladder's rungs.
-#[derive(Drop)]
+#[derive(Clone, Copy)]
 pub enum Rung {
     Normal,
     Oil,

@@ -17,7 +17,7 @@ const MANY: usize = 16;
 
 // What the search knows: at lo there are more MWh than the total, at hi no more, and `spare` of one merit are next below hi. `next` is a mark to try.
 // The slope is to stop `short` MWh before the total, and where it leads nowhere `many` may be left.
-#[derive(Drop)]
+#[derive(Clone, Copy)]
 pub struct Guess {
     pub lo: u64,
     pub over: u64,
@@ -30,14 +30,14 @@ pub struct Guess {
 }
 
 // A mark to try, and the MWh of one merit next below it, where they were looked for.
-#[derive(Drop)]
+#[derive(Clone, Copy)]
 pub struct Trial {
     pub mark: u64,
     pub spare: u64,
 }
 
 // Of the sources with one merit, where those next below and above a mark begin, and the MWh of those that begin at it.
-#[derive(Drop)]
+#[derive(Clone, Copy)]
 pub struct Flats {
     pub below: u64,
     pub level: u64,

@@ -1,5 +1,7 @@
 // The search for a mark: a merit such that no more MWh than the total have it or a better one, and few are then left to take.
 // Only the stock at the mark and the number of rounds are proved; `guess` says where to look. Internal: `dispatch` takes what is left.
+#![tactic(auto)]
+
 ghost use Rattle.std.specs.Prelude.{◌≡◌};
 ghost use Rattle.rules.specs.Words.{sum_to};
 ghost use Rattle.cutoff.specs.Lines.{Scaled, Scales, Table, Marked, stock, stock_at};
@@ -19,14 +21,14 @@ pub const WHOLE: u64 = 1_099_511_627_776;
 const ROUNDS: u64 = 64;
 
 // The MWh at and above a mark, and how fast they grow below it.
-#[derive(Drop)]
+#[derive(Clone, Copy)]
 pub struct Offer {
     pub sum: u64,
     pub slope: u64,
 }
 
 // A mark, and the MWh at and above it.
-#[derive(Drop)]
+#[derive(Clone, Copy)]
 pub struct Mark {
     pub merit: u64,
     pub sum: u64,

@@ -2,6 +2,8 @@
 // A struct holds the deck and its place; its functions are thin, over covered ones on slice and place.
 // The contracts cite rules' Reading for what a deck comes to and Places for where a line starts, Answers for the structs that say it, Steps for the line at hand, and FirstLine for the first
 // line and those after it.
+#![tactic(auto)]
+
 ghost use Rattle.std.specs.Prelude.{◌≡◌, ◌+◌, ◌<◌, ◌≤◌, length, get_or};
 ghost use Rattle.rules.specs.Answers.{verdict_of};
 ghost use Rattle.rules.specs.Lines.{T, D, U, P, F, places_at};
@@ -26,7 +28,7 @@ use read_lines::{DeliveryLine, DirectLine, FixedLine, HeadLine, PurchaseLine, Un
 use rules::{Basis, Delivery, Direct, Hour, InputSequence, Label, Plant, Refusal, Source, Verdict};
 
 // Where a label's own bytes start and end.
-#[derive(Drop)]
+#[derive(Clone, Copy)]
 pub struct Place {
     pub from: usize,
     pub upto: usize,
@@ -35,7 +37,7 @@ pub struct Place {
 const NOWHERE: Place = Place { from: 0, upto: 0 };
 
 // What a deck comes to, and where the labels of its sources and deliveries stand; past the counts, and for a refused deck, a place holds no bytes.
-#[derive(Drop)]
+#[derive(Clone, Copy)]
 pub struct ScannedDeck {
     pub verdict: Verdict,
     pub hour: Hour,
@@ -43,21 +45,21 @@ pub struct ScannedDeck {
     pub deliveries: [Place; 32],
 }
 
-#[derive(Drop)]
+#[derive(Clone, Copy)]
 pub struct ReadHour {
     pub verdict: Verdict,
     pub hour: Hour,
 }
 
 // The deck that is read, and the place reached in it.
-#[derive(Drop)]
+#[derive(Clone, Copy)]
 struct Reader<'a> {
     deck: &'a [u8],
     at: usize,
 }
 
 // 1 and the first line: the verdict, and for a line that starts an hour its losses and the place after it.
-#[derive(Drop)]
+#[derive(Clone, Copy)]
 struct HeadStep {
     verdict: Verdict,
     losses: u32,
@@ -65,14 +67,14 @@ struct HeadStep {
 }
 
 // A source line: whether its numbers are in their ranges, the plant that they make, where its label's own bytes start and end, and the place after it.
-#[derive(Drop)]
+#[derive(Clone, Copy)]
 enum SourceLine {
     Read(bool, Plant, usize, usize, usize),
     Malformed,
 }
 
 // A line at hand: the verdict on it, and for one that is taken its entry, the place of its label, the totals with it, and the place after the line.
-#[derive(Drop)]
+#[derive(Clone, Copy)]
 struct SourceStep {
     verdict: Verdict,
     entry: Source,
@@ -81,7 +83,7 @@ struct SourceStep {
     next: usize,
 }
 
-#[derive(Drop)]
+#[derive(Clone, Copy)]
 struct DeliveryStep {
     verdict: Verdict,
     entry: Delivery,
@@ -90,7 +92,7 @@ struct DeliveryStep {
     next: usize,
 }
 
-#[derive(Drop)]
+#[derive(Clone, Copy)]
 struct DirectStep {
     verdict: Verdict,
     entry: Direct,

@@ -1,6 +1,8 @@
 // Two engines with one promise, for unloading (up is false) and credits (up is true): the total is taken of sources with room, the best MWh first.
 // A source enters as a falling line of merit, in three arrays. `plain` takes one MWh at a time; `price` leaves out sources that cannot compete, finds
 // a mark, takes all above it at once, and the rest by blocks. The definitions are in specs/ and in `cutoff`. Internal: they know no hour, and the caller gives lines and room.
+#![tactic(auto)]
+
 ghost use Rattle.std.specs.Prelude.{true, false, ◌≡◌, ◌+◌, ◌*◌, ◌≤◌, ◌<◌, ◌^◌, length, replicate};
 ghost use Rattle.rules.specs.Words.{sum_to};
 ghost use Rattle.cutoff.specs.Lines.{lanes, at, Falls, Source, Table, Scales};
@@ -14,7 +16,7 @@ use cutoff::{ABOVE_ALL, LANES, WHOLE};
 const MANY: usize = 12;
 
 // What counts the MWh of a line above a mark.
-#[derive(Drop)]
+#[derive(Clone, Copy)]
 struct Shape {
     span: u64,
     inv: u64,

@@ -4,7 +4,7 @@ use crate::lines::peek;
 use crate::{Found, counted, lines, sentences};
 use read_fields::{LabelField, NumberField};
 
-#[derive(Drop)]
+#[derive(Clone, Copy)]
 enum Kind {
     Number,
     Basis,
@@ -12,7 +12,7 @@ enum Kind {
 }
 
 // Why a byte does not fit: what is due there, or what is wrong with the field that it begins.
-#[derive(Drop)]
+#[derive(Clone, Copy)]
 enum Fault {
     Nothing,
     Space,
@@ -29,7 +29,7 @@ enum Fault {
 }
 
 // How far the form goes.
-#[derive(Drop)]
+#[derive(Clone, Copy)]
 struct Met {
     at: usize,
     fault: Fault,

@@ -1,5 +1,7 @@
 // What is found in a refused deck or file, for its words: a line of a table, and the numbers and parts of the deck that stand for its marks.
 // No contract says what is found: that is tested (tests/words). Internal: words calls it.
+#![tactic(auto)]
+
 pub mod entries;
 pub mod form;
 pub mod lines;
@@ -11,7 +13,7 @@ pub mod shortage;
 use lines::Span;
 
 // A line of a table of words, from 1, and what stands for its marks: numbers for %1 to %4, parts of the deck for %5 to %7. 0 is no line.
-#[derive(Drop)]
+#[derive(Clone, Copy)]
 pub struct Found {
     pub words: usize,
     pub one: u64,

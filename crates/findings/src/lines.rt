@@ -4,14 +4,14 @@ use read_lines::{DeliveryLine, DirectLine, FixedLine, HeadLine, PurchaseLine, Un
 use rules::Basis;
 
 // A part of the deck: where it starts and ends.
-#[derive(Drop)]
+#[derive(Clone, Copy)]
 pub struct Span {
     pub from: usize,
     pub upto: usize,
 }
 
 // A line's letter, its numbers in their order (1 for a basis that is a letter), its label, and a D line's label of a delivery. No letter, 0, where the line is not of its form.
-#[derive(Drop)]
+#[derive(Clone, Copy)]
 pub struct Entry {
     pub letter: u8,
     pub numbers: [u32; 10],

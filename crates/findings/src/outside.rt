@@ -5,7 +5,7 @@ use crate::lines::Entry;
 use crate::{Found, counted, said, sentences};
 
 // The least and the most that number k of a line may be, counted from 0.
-#[derive(Drop)]
+#[derive(Clone, Copy)]
 struct Range {
     least: u32,
     most: u32,

@@ -1,10 +1,12 @@
 // What programs read and write: frames on standard input, each a line `deck N` or `deck N NAME`, or `spreadsheet` for `deck`, and then N bytes; answers
 // on standard output, each with whether it could be written; and on descriptor 3 how the run ended, for the program that started this one.
 // The input stands in a lent window, of which the bytes from `from` to `have` are not used yet; nothing else of it is kept.
+#![tactic(auto)]
+
 ghost use Rattle.std.specs.Prelude.{◌≡◌, ◌≤◌, ◌<◌, length};
 
 // How a run ended: all written; a deck or file refused or a frame broken; a read that failed; a write that failed; an input longer than the program takes.
-#[derive(Drop)]
+#[derive(Clone, Copy)]
 pub enum Ending {
     Written,
     Refused,
@@ -25,7 +27,7 @@ pub fn tell(ending: Ending) {
 }
 
 // How many bytes the window has after a read, and whether the read failed.
-#[derive(Drop)]
+#[derive(Clone, Copy)]
 pub struct Got {
     pub have: usize,
     pub failed: bool,
@@ -106,7 +108,7 @@ fn leads(at: usize, i: usize, size: u64) -> bool {
 
 // A frame's head, its first line, as far as it is there: `whole` up to LF, with its number, the place after that, from which on the head's rest
 // stands, LF or a space, a name and LF, and the place after LF; or `broken`, so that no more bytes make a head of it.
-#[derive(Drop)]
+#[derive(Clone, Copy)]
 pub struct Head {
     pub whole: bool,
     pub broken: bool,
@@ -230,7 +232,7 @@ fn head_of(s: &[u8]) -> Head
 
 // What comes next on the input: a frame that is whole, with what is asked of its deck; one of more bytes than a deck may have, passed over; the
 // input's end; a frame that is not of its form or is cut off; a read that fails.
-#[derive(Drop)]
+#[derive(Clone, Copy)]
 pub enum Coming {
     Report,
     Spreadsheet,
@@ -242,7 +244,7 @@ pub enum Coming {
 
 // What comes next, and where in the window: the rest of the frame's head, LF included, from `rest` to `end`; the frame's bytes from `first` to `upto`;
 // what is not used yet from `upto` to `have`.
-#[derive(Drop)]
+#[derive(Clone, Copy)]
 pub struct Frame {
     pub coming: Coming,
     pub rest: usize,

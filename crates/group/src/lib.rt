@@ -1,5 +1,7 @@
 // One group: a D line's direct allocation, and the remainder of the group by either engine.
 // The contracts cite rules' Group: `directed`, `unload`, `credit` and `remainder`.
+#![tactic(auto)]
+
 pub mod first;
 
 ghost use Rattle.std.specs.Prelude.{◌≡◌, ◌+◌, ◌≤◌};
@@ -15,7 +17,7 @@ use ladder::Way;
 use rules::{Basis, Direct, InternalSequence, Plant, Refusal, Running, Verdict};
 
 // What a remainder comes to, and the states after it; where it is refused, as they were.
-#[derive(Drop)]
+#[derive(Clone, Copy)]
 pub struct Settled {
     pub verdict: Verdict,
     pub states: [Running; 32],

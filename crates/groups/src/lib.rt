@@ -1,5 +1,7 @@
 // Every group of an hour in its turn, by either engine: the states in the end, and where each group found and left each source.
 // The contracts cite specs/: GroupTurns for where a run stands, RowKept and MovesOfGroups for what the table keeps.
+#![tactic(auto)]
+
 ghost use Rattle.std.specs.Prelude.{true, ◌≡◌, ◌<◌};
 ghost use Rattle.rules.specs.Group.{opened};
 ghost use Rattle.rules.specs.Writing.{valid};

@@ -1,5 +1,7 @@
 // The cells of an hour, and the amounts of its lines: the header's of the hour's sums, a pair's and a source's of the cells.
 // The contracts cite rules' Hour, Calls and Report, and LineAmounts for the cells from a place on.
+#![tactic(auto)]
+
 ghost use Rattle.std.specs.Prelude.{◌≡◌, true, ◌+◌, ◌≤◌, ◌+ℤ◌, length};
 ghost use Rattle.rules.specs.Answers.{written_of};
 ghost use Rattle.rules.specs.Hour.{pair_width, open_width, cell_count, answer};

@@ -1,5 +1,7 @@
 // Where a label's own bytes stand in its deck: as the part of the deck, and as one number. Its place comes from the one pass that reads the deck.
 // The contracts cite rules' Calls and Places, and Stands for a place that is a label's.
+#![tactic(auto)]
+
 ghost use Rattle.std.specs.Prelude.{◌≡◌, ◌+◌, ◌-◌, ◌≤◌, ◌++◌, length};
 ghost use Rattle.rules.specs.Answers.{written_of};
 ghost use Rattle.rules.specs.Calls.{leaves, source_part, delivery_part};

@@ -1,5 +1,7 @@
 // A remainder's ways: the room of a source and of all, by each, and a source's line; and the ladder's last step.
 // The contracts cite rules' Group: `all`, `plain`, `last_step` and `to_emergency`, and specs/ for what an engine makes of a way's lines.
+#![tactic(auto)]
+
 pub mod shift;
 
 ghost use Rattle.std.specs.Prelude.{◌≡◌, ◌+◌, ◌≤◌, ◌<◌};
@@ -14,7 +16,7 @@ use cutoff::LANES;
 use rules::{Plant, Running};
 
 // Down by a rung of the ladder, or up for a credit.
-#[derive(Drop)]
+#[derive(Clone, Copy)]
 pub enum Way {
     Down(Rung),
     Up,

@@ -1,5 +1,7 @@
 // Document 01's rules 2 to 9 tried in their order on one more line of a growing hour, and 10 and 11 at its end.
 // Contracts cite rules' Reading, and of this crate Spellings (labels as numbers), Tried (2 to 9 on tables kept beside the hour) and Totalled (10 and 11 on totals kept beside it). Internal: the deck's crates and the test of 15 call it.
+#![tactic(auto)]
+
 ghost use Rattle.std.specs.Prelude.{◌≡◌, not, ◌&&◌, ◌+◌, ◌≤◌, ◌<◌, eqb, get_or, set};
 ghost use Rattle.rules.specs.Answers.{verdict_of};
 ghost use Rattle.rules.specs.Units.{generation, ordered, levelled};
@@ -13,42 +15,42 @@ use rules::{
 };
 
 // A D line's entry, or why there is none.
-#[derive(Drop)]
+#[derive(Clone, Copy)]
 pub enum Entry {
     Named(Direct),
     Unnamed(Refusal),
 }
 
 // The first place that fits.
-#[derive(Drop)]
+#[derive(Clone, Copy)]
 pub enum Spot {
     At(usize),
     Nowhere,
 }
 
 // The unit and the delivery that a D line names.
-#[derive(Drop)]
+#[derive(Clone, Copy)]
 pub enum Pair {
     Both(usize, usize),
     Missing,
 }
 
 // The sixteen bytes of a label as two numbers.
-#[derive(Drop)]
+#[derive(Clone, Copy)]
 pub struct Spelling {
     pub lo: u64,
     pub hi: u64,
 }
 
 // How many entries of each class the hour so far has.
-#[derive(Drop)]
+#[derive(Clone, Copy)]
 pub struct Counts {
     pub sources: usize,
     pub deliveries: usize,
     pub directs: usize,
 }
 
-#[derive(Drop)]
+#[derive(Clone, Copy)]
 pub struct DirectLine {
     pub basis: Basis,
     pub percent: u32,
@@ -57,7 +59,7 @@ pub struct DirectLine {
 }
 
 // What 10 and 11 ask of the entries so far: the sums of what they generate and take, and whether a delivery has a number of its own.
-#[derive(Drop)]
+#[derive(Clone, Copy)]
 pub struct Totals {
     pub generated: u64,
     pub delivered: u64,

@@ -1,5 +1,7 @@
 // The lines of one spreadsheet file as the report prints them: the file on standard input, its lines on standard output, and on descriptor 3 how the
 // run ended.
+#![tactic(auto)]
+
 ghost use Rattle.std.specs.Prelude.{◌≡◌, length};
 
 use frames::Ending;

@@ -1,5 +1,7 @@
 // The members of a group: its MWh, its first member, and the members' shares of what it takes, written into the hour's cells.
 // The contracts cite `up_to` of rules' Group and specs/, which has them in the hour's words; a group's amounts are told by its row of the table that `moves` keeps.
+#![tactic(auto)]
+
 mod shares;
 
 ghost use Rattle.std.specs.Prelude.{◌≡◌, ℕ, ◌+◌, ◌*◌, ◌≤◌, ◌<◌, length};

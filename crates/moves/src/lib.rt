@@ -1,5 +1,7 @@
 // What moved: where a group found each source and where it left it, in one number; and the group's four amounts of the source, told from that number and the source's state at the hour's end.
 // The contracts cite specs/: MovesKept for the numbers, ToldIsTaken for the amounts.
+#![tactic(auto)]
+
 ghost use Rattle.std.specs.Prelude.{false, map, ◌≡◌, ◌-◌, ◌+◌, ◌≤◌, ◌<◌};
 ghost use Rattle.merit.specs.NumbersStaySmall.{Small};
 ghost use Rattle.rules.specs.Group.{changed};
@@ -18,7 +20,7 @@ const STEP: u64 = 4096;
 const STANDINGS: u64 = 16_777_216;
 
 // A group's amounts of one source: of each item the size, and whether it is below 0.
-#[derive(Drop)]
+#[derive(Clone, Copy)]
 pub struct Amounts {
     pub sizes: [u64; PAIR_CELLS],
     pub minus: [bool; PAIR_CELLS],

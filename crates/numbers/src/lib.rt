@@ -1,4 +1,6 @@
 // Of two numbers: the one less the other, the lesser, and how far apart they are. Internal: every crate of code may call it.
+#![tactic(auto)]
+
 ghost use Rattle.std.specs.Prelude.{◌≡◌, ◌+◌, ◌-◌, min};
 
 // a less b, or 0 where a is below it.

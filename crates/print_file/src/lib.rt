@@ -1,5 +1,7 @@
 // The lines of a spreadsheet file as the report's text, in two passes over its records: what the call comes to, then the bytes.
 // Contracts cite Room and Inked of write_fields, the texts of specs/RecordLines and what is judged in specs/Judging, and spreadsheet_lines and leaves of rules.
+#![tactic(auto)]
+
 ghost use Rattle.std.specs.Prelude.{◌≡◌, ◌||◌, [], ◌+◌, ◌^◌, ◌≤◌, ◌<◌, eqb, length};
 ghost use Rattle.rules.specs.Answers.{verdict_of, written_of};
 ghost use Rattle.rules.specs.Calls.{spreadsheet_lines, leaves};

@@ -1,5 +1,7 @@
 // The lines of a report, each written with its LF at a place of a lent buffer, which gives the place after; and how long each is.
 // Contracts cite Room and Inked of write_fields, and texts of specs/Lines made of the lines in rules' Report.
+#![tactic(auto)]
+
 ghost use Rattle.std.specs.Prelude.{◌≡◌, [], ◌^◌, ◌≤◌, ◌<◌, length};
 ghost use Rattle.rules.specs.Refusals.{number_of, place_of};
 ghost use Rattle.rules.specs.Report.{hour, end, refusal};

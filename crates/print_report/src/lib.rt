@@ -1,5 +1,7 @@
 // The report of a deck as text, line by line straight into a lent buffer: its length is found first where the buffer may be too short for it.
 // Contracts cite Room and Inked of write_fields, the rows of specs/Rows and their amounts in LineAmounts of hour_lines, and report, reporting and leaves of rules.
+#![tactic(auto)]
+
 ghost use Rattle.std.specs.Prelude.{◌≡◌, [], ◌++◌, ◌+◌, ◌*◌, ◌^◌, ◌≤◌, ◌<◌, length, drop};
 ghost use Rattle.rules.specs.Answers.{written_of};
 ghost use Rattle.rules.specs.Refusals.{number_of, place_of};

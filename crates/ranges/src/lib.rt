@@ -1,5 +1,7 @@
 // Whether the numbers of a line are in document 01's ranges (3); a unit is made of its line's numbers only where they are.
 // Contracts cite rules' Ranges and Lines, and Inside: a line's ranges as a test of its entry's numbers. Internal: the deck's crates call it.
+#![tactic(auto)]
+
 ghost use Rattle.std.specs.Prelude.{◌≡◌};
 ghost use Rattle.rules.specs.Ranges.{inside, ◌to◌, unit_level, basis_mwh};
 ghost use Rattle.rules.specs.Lines.{basis_inside};
@@ -37,7 +39,7 @@ const LEAST_PERCENT: u32 = 1;
 const MOST_PERCENT: u32 = 100;
 
 // The ten numbers of a unit's line, as they were read.
-#[derive(Drop)]
+#[derive(Clone, Copy)]
 pub struct UnitNumbers {
     pub g: u32,
     pub h: u32,
@@ -52,7 +54,7 @@ pub struct UnitNumbers {
 }
 
 // The unit that they make, or that one is outside its range.
-#[derive(Drop)]
+#[derive(Clone, Copy)]
 pub enum JudgedUnit {
     Inside(Unit),
     Outside,

@@ -1,5 +1,7 @@
 // Reads the fields of a deck's line: numbers, bases and labels, each at a place.
 // The contracts cite rules' Fields and Record for what stands in the deck, and Answers for the enum that says it.
+#![tactic(auto)]
+
 ghost use Rattle.std.specs.Prelude.{◌≡◌, false, ◌≤◌, ◌<◌, length, get_or, drop};
 ghost use Rattle.rules.specs.Fields.{is_digit, is_character, is_escaped, byte_at, run, number_at, closed as closedAt, label_end, unescape, spaced_number, spaced_basis, basis_at, spaced_label};
 ghost use Rattle.rules.specs.Record.{label_of};
@@ -8,42 +10,42 @@ ghost use Rattle.read_fields.specs.Answers.{cut, step_of, DigitOf, number_field,
 use rules::{Basis, Label};
 
 // Whether a byte that must stand at a place does, and the place after it.
-#[derive(Drop)]
+#[derive(Clone, Copy)]
 pub enum Step {
     At(usize),
     Missing,
 }
 
 // A number's first digit, as a number, and the place after it.
-#[derive(Drop)]
+#[derive(Clone, Copy)]
 pub enum FirstDigit {
     Digit(u8, usize),
     Malformed,
 }
 
 // A number, cut at CUT, and the place after it.
-#[derive(Drop)]
+#[derive(Clone, Copy)]
 pub enum NumberField {
     Number(u32, usize),
     Malformed,
 }
 
 // A basis, its number cut at CUT, and the place after it.
-#[derive(Drop)]
+#[derive(Clone, Copy)]
 pub enum BasisField {
     Basis(Basis, usize),
     Malformed,
 }
 
 // The index of a label's closing quote in the part that starts with the opening one.
-#[derive(Drop)]
+#[derive(Clone, Copy)]
 pub enum LabelEnd {
     Closed(usize),
     Unclosed,
 }
 
 // Where a label's own bytes start and end, and the place after its closing quote.
-#[derive(Drop)]
+#[derive(Clone, Copy)]
 pub enum LabelField {
     At(usize, usize, usize),
     Malformed,

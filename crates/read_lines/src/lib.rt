@@ -1,5 +1,7 @@
 // Reads a deck's lines, each from the place after its letter to the place after its LF.
 // The contracts cite rules' Lines for what stands in the deck, and Answers for the enum that says it.
+#![tactic(auto)]
+
 ghost use Rattle.std.specs.Prelude.{◌≡◌};
 ghost use Rattle.rules.specs.Lines.{H as headLetter, U, P, F, T, D, fields_at, places_at};
 ghost use Rattle.read_lines.specs.Answers.{head_line, curve_fields, curve_field, unit_line, purchase_line, fixed_line, delivery_line, direct_line};
@@ -11,48 +13,48 @@ use rules::Basis;
 // Each number is cut as read_fields cuts it; where a label's own bytes start and end; last the place after the line.
 
 // Losses.
-#[derive(Drop)]
+#[derive(Clone, Copy)]
 pub enum HeadLine {
     Read(u32, usize),
     Malformed,
 }
 
 // The curve's start, its coefficients A, B and C, and the rate R.
-#[derive(Drop)]
+#[derive(Clone, Copy)]
 enum CurveField {
     Read(u32, u32, u32, u32, u32, usize),
     Malformed,
 }
 
-#[derive(Drop)]
+#[derive(Clone, Copy)]
 pub enum UnitLine {
     Read(UnitNumbers, usize, usize, usize),
     Malformed,
 }
 
 // Generation and rate.
-#[derive(Drop)]
+#[derive(Clone, Copy)]
 pub enum PurchaseLine {
     Read(u32, u32, usize, usize, usize),
     Malformed,
 }
 
 // Generation.
-#[derive(Drop)]
+#[derive(Clone, Copy)]
 pub enum FixedLine {
     Read(u32, usize, usize, usize),
     Malformed,
 }
 
 // Sequence, type, block and MWh.
-#[derive(Drop)]
+#[derive(Clone, Copy)]
 pub enum DeliveryLine {
     Read(u32, u32, u32, u32, usize, usize, usize),
     Malformed,
 }
 
 // Basis and percent, the unit's label and the delivery's.
-#[derive(Drop)]
+#[derive(Clone, Copy)]
 pub enum DirectLine {
     Read(Basis, u32, usize, usize, usize, usize, usize),
     Malformed,

@@ -1,5 +1,7 @@
 // Reads the records of a spreadsheet file, each at a place of it.
 // The contracts cite rules' Spreadsheet for what stands in the file, and Answers for what an answer says.
+#![tactic(auto)]
+
 ghost use Rattle.std.specs.Prelude.{◌≡◌, false, [], ◌+◌, ◌*◌, ◌≤◌, leb, take, drop};
 ghost use Rattle.rules.specs.Fields.{got, malformed as notFound, run, number_at};
 ghost use Rattle.rules.specs.Record.{label_of};
@@ -11,21 +13,21 @@ use read_fields::{FirstDigit, Step};
 use rules::Label;
 
 // A number without its sign, cut at CUT, and the place after it.
-#[derive(Drop)]
+#[derive(Clone, Copy)]
 enum NumberField {
     Number(u64, usize),
     Malformed,
 }
 
 // A number and the place after it.
-#[derive(Drop)]
+#[derive(Clone, Copy)]
 enum SignedField {
     Number(i64, usize),
     Malformed,
 }
 
 // A label's next character and the place after it, or the place after the closing quote.
-#[derive(Drop)]
+#[derive(Clone, Copy)]
 enum Character {
     Read(u8, usize),
     Closed(usize),
@@ -33,7 +35,7 @@ enum Character {
 }
 
 // Whether a label was found, and then it and the place after it.
-#[derive(Drop)]
+#[derive(Clone, Copy)]
 struct LabelField {
     found: bool,
     label: Label,
@@ -44,7 +46,7 @@ struct LabelField {
 pub const AMOUNTS: usize = 4;
 
 // Whether a record's amounts and its end were found, and then they, from the first on, and the place after it.
-#[derive(Drop)]
+#[derive(Clone, Copy)]
 struct LastFields {
     found: bool,
     amounts: [i64; AMOUNTS],
@@ -58,7 +60,7 @@ pub const PAIR_COUNT: usize = 3;
 
 pub const OPEN_COUNT: usize = 2;
 
-#[derive(Drop)]
+#[derive(Clone, Copy)]
 pub enum RecordKind {
     Hour,
     Delivery,
@@ -68,7 +70,7 @@ pub enum RecordKind {
 }
 
 // What was found at a place: where it is a record, the fields of its kind and the place after it.
-#[derive(Drop)]
+#[derive(Clone, Copy)]
 pub struct Record {
     pub kind: RecordKind,
     pub delivery: Label,

@@ -1,5 +1,7 @@
 // Document 01's whole hour: every group in its turn, by either engine, and the answer's cells into a lent buffer.
 // The promise cites rules' Calls: reconstruction, cells_for for the part below 15, and leaves for the buffer; and Answers. The other contracts cite specs/.
+#![tactic(auto)]
+
 ghost use Rattle.std.specs.Prelude.{true, map, ◌≡◌, ◌≤◌, pos, length};
 ghost use Rattle.ladder.specs.Ready.{Ready};
 ghost use Rattle.rules.specs.Answers.{written_of};

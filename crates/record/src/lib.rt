@@ -1,5 +1,7 @@
 // The test of 15: whether a deck gives an hour record, by the functions that try a deck's lines.
 // The contract of valid cites rules' Writing; the others cite Own, the test place by place.
+#![tactic(auto)]
+
 mod shape;
 
 ghost use Rattle.std.specs.Prelude.{◌≡◌, ◌&&◌, ◌+◌, ◌≤◌, ◌<◌, ltb, get_or};

@@ -1,4 +1,6 @@
 // A refusal's number and place, and both in one number. The contracts cite rules' Refusals, and Codes.
+#![tactic(auto)]
+
 ghost use Rattle.std.specs.Prelude.{◌≡◌};
 ghost use Rattle.rules.specs.Refusals.{number_of, place_of};
 ghost use Rattle.refusals.specs.Codes.{code_of};

@@ -1,12 +1,14 @@
 // The types of document 01: an hour record, a source's running state, and a refusal, with the methods that are asked for by name.
 // The rules over them are in specs/, as definitions that compute; all other code stands in the crates above.
+#![tactic(auto)]
+
 ghost use Rattle.std.specs.Prelude.{◌≡◌, ◌+◌, ◌-◌, ◌*◌, ◌/◌, ◌≤◌};
 ghost use Rattle.rules.specs.Units.{generation, curve_inside, curve_made};
 ghost use Rattle.rules.specs.Group.{based_on, renewed};
 ghost use Rattle.rules.specs.Answers.{curve_answer};
 
 // The curve's start k, its coefficients A, B and C in thousandths, and the rate R. Its fields are closed: `new` alone makes one.
-#[derive(Drop)]
+#[derive(Clone, Copy)]
 pub struct HeatCurve {
     k: u32,
     a: u32,
@@ -108,7 +110,7 @@ impl HeatCurve {
 }
 
 // A unit's levels, generation, high, normal low, oil point low and emergency low, and its curve.
-#[derive(Drop)]
+#[derive(Clone, Copy)]
 pub struct Unit {
     pub g: u32,
     pub h: u32,
@@ -118,7 +120,7 @@ pub struct Unit {
     pub curve: HeatCurve,
 }
 
-#[derive(Drop)]
+#[derive(Clone, Copy)]
 pub enum Plant {
     Unit(Unit),
     Purchase { g: u32, rate: u32 },
@@ -138,32 +140,32 @@ impl Plant {
 }
 
 // A label's characters, and zeros after them.
-#[derive(Drop)]
+#[derive(Clone, Copy)]
 pub struct Label {
     pub len: u8,
     pub bytes: [u8; 16],
 }
 
-#[derive(Drop)]
+#[derive(Clone, Copy)]
 pub struct Source {
     pub plant: Plant,
     pub label: Label,
 }
 
 // The number on a T line; 0 means "to be placed".
-#[derive(Drop)]
+#[derive(Clone, Copy)]
 pub struct InputSequence(pub u32);
 
-#[derive(Drop)]
+#[derive(Clone, Copy)]
 pub struct InternalSequence(pub u32);
 
 // What makes a group: deliveries of one key are its members.
-#[derive(Drop)]
+#[derive(Clone, Copy)]
 pub struct Key {
     pub number: InternalSequence,
 }
 
-#[derive(Drop)]
+#[derive(Clone, Copy)]
 pub struct Delivery {
     pub sequence: InputSequence,
     pub kind: u32,
@@ -172,7 +174,7 @@ pub struct Delivery {
     pub label: Label,
 }
 
-#[derive(Drop)]
+#[derive(Clone, Copy)]
 pub enum Basis {
     Low,
     Generation,
@@ -180,7 +182,7 @@ pub enum Basis {
 }
 
 // A D line: which source and which delivery it names, from 0.
-#[derive(Drop)]
+#[derive(Clone, Copy)]
 pub struct Direct {
     pub basis: Basis,
     pub percent: u32,
@@ -189,7 +191,7 @@ pub struct Direct {
 }
 
 // One hour; the entries past each count are blank.
-#[derive(Drop)]
+#[derive(Clone, Copy)]
 pub struct Hour {
     pub losses: u32,
     pub nsources: usize,
@@ -202,7 +204,7 @@ pub struct Hour {
 
 // A source's running state: its plant, open energy v, directly taken d, basic amount b and whether it is set,
 // and the percent total so far.
-#[derive(Drop)]
+#[derive(Clone, Copy)]
 pub struct Running {
     pub plant: Plant,
     pub v: u32,
@@ -231,7 +233,7 @@ impl Running {
 }
 
 // Why a call refuses, 1 to 16 in their order, with the line, the internal number or the record that it names.
-#[derive(Drop)]
+#[derive(Clone, Copy)]
 pub enum Refusal {
     TooLong,
     Form(usize),
@@ -253,27 +255,27 @@ pub enum Refusal {
 
 // Answers. Each that can refuse carries the refusal.
 
-#[derive(Drop)]
+#[derive(Clone, Copy)]
 pub enum Verdict {
     Accepted,
     Refused(Refusal),
 }
 
 // How many bytes or cells were written.
-#[derive(Drop)]
+#[derive(Clone, Copy)]
 pub enum Written {
     Count(usize),
     Refused(Refusal),
 }
 
-#[derive(Drop)]
+#[derive(Clone, Copy)]
 pub enum CurveAnswer {
     Made(HeatCurve),
     Refused(Refusal),
 }
 
 // A cost in grains.
-#[derive(Drop)]
+#[derive(Clone, Copy)]
 pub enum CostAnswer {
     Cost(u64),
     Refused(Refusal),

@@ -1,5 +1,7 @@
 // Each delivery's key, its internal number: ten times its input number, or a place beside those of deliveries that have one; and the key whose turn comes next.
 // The contracts cite rules' Sequences and Hour, and `placings` of specs/, rules' `numbered` of each delivery. The search reads columns; its contracts speak of any deliveries that have them.
+#![tactic(auto)]
+
 ghost use Rattle.std.specs.Prelude.{true, ◌&&◌, List, ◌≡◌, ◌≤◌, ◌<◌, min, max, eqb, ltb};
 ghost use Rattle.std.proofs.Math.Option.{some};
 ghost use Rattle.rules.specs.Sequences.{times_ten, before, after};
@@ -19,7 +21,7 @@ pub const BEFORE_ALL: Key = Key {
 };
 
 // The deliveries that a rule looks for: of a type and block, of a type, or any.
-#[derive(Drop)]
+#[derive(Clone, Copy)]
 enum Sought {
     Block { kind: u32, block: u32 },
     Kind(u32),
@@ -27,7 +29,7 @@ enum Sought {
 }
 
 // The next group: whether a delivery is left for one, and its key.
-#[derive(Drop)]
+#[derive(Clone, Copy)]
 pub struct NextGroup {
     pub there: bool,
     pub key: Key,

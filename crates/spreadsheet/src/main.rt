@@ -1,5 +1,7 @@
 // The spreadsheet file of one deck: the deck on standard input, the file on standard output, and on descriptor 3 how the run ended.
 // An input longer than the window is longer than any deck, and its first bytes tell as much.
+#![tactic(auto)]
+
 use frames::Ending;
 use rules::Written;
 use words::WORDS;

@@ -1,6 +1,8 @@
 // For tests from C: a deck's hour reconstructed into lent cells by either rule, written anew as a deck and as a spreadsheet file, also from a record that is
 // spoiled in one field; and for timing one hour and one group.
 // An answer is the number of cells or bytes, or refusals' code of a refusal.
+#![tactic(auto)]
+
 mod rebuilding;
 mod settling;
 

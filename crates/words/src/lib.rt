@@ -1,5 +1,7 @@
 // A refusal in words, for a clerk: what is wrong, where, what was found there and what to do. The tables of all words are in `table`, what is found is told by `findings`.
 // No contract says which words: that is tested. What is refused is decided by the proved reader and the proved groups.
+#![tactic(auto)]
+
 mod table;
 mod text;
 

@@ -1,5 +1,7 @@
 // Signed numbers and lists of amounts, each number after a byte that leads it: a space in the report, a comma in a spreadsheet file.
 // Contracts cite Room and Inked of write_fields, and texts of specs/Amounts made of signed_text in rules' Report.
+#![tactic(auto)]
+
 ghost use Rattle.std.specs.Prelude.{◌≡◌, [], true, ◌^◌, ◌≤◌, ◌<◌, nat_abs, length};
 ghost use Rattle.write_fields.specs.Inked.{Room, Inked};
 ghost use Rattle.write_amounts.specs.Amounts.{signed_after, amounts_after, signed_size, amounts_size, zeros_after, AllZero};

@@ -1,5 +1,7 @@
 // Writing an hour record as a deck: 15, then 14; line by line into a buffer of the writer's own, and over to a lent one where it fits.
 // Contracts cite Room and Inked of write_fields, and line_text, deck_text, valid, writing and leaves of rules.
+#![tactic(auto)]
+
 ghost use Rattle.std.specs.Prelude.{◌≡◌, true, [], ◌++◌, ◌≤◌, length, drop};
 ghost use Rattle.rules.specs.Lines.{line_text};
 ghost use Rattle.rules.specs.Record.{chars, source_line, delivery_line, end_line};

@@ -1,5 +1,7 @@
 // Writers of bytes, numbers, labels and bases: each writes at a place of a lent buffer and gives the place after.
 // Contracts cite Room and Inked of specs/Inked, and texts of specs/Texts made of those in rules/specs/Fields.
+#![tactic(auto)]
+
 ghost use Rattle.std.specs.Prelude.{◌≡◌, [], ◌∷◌, ◌++◌, ◌+◌, ◌≤◌, ◌<◌, length};
 ghost use Rattle.rules.specs.Fields.{digits, basis_text};
 ghost use Rattle.rules.specs.Record.{chars};

@@ -1,5 +1,7 @@
 // The records of a spreadsheet file, each written with its CRLF at a place of a lent buffer, which gives the place after; and how long each is.
 // Contracts cite Room and Inked of write_fields, the records of rules' Spreadsheet, and texts of specs/Records made of its fields.
+#![tactic(auto)]
+
 ghost use Rattle.std.specs.Prelude.{◌≡◌, [], ◌+◌, ◌≤◌, length};
 ghost use Rattle.rules.specs.Record.{chars};
 ghost use Rattle.rules.specs.Report.{hour, internal, end};

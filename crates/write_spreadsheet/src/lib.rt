@@ -1,5 +1,7 @@
 // The spreadsheet file of an hour, record by record straight into a lent buffer: its length is found first where the buffer may be too short for it.
 // Contracts cite Room and Inked of write_fields, the rows of specs/Rows and the file of specs/HourFile, and file_for, spreadsheet, deck_spreadsheet and leaves of rules.
+#![tactic(auto)]
+
 ghost use Rattle.std.specs.Prelude.{◌≡◌, true, [], ◌++◌, ◌+◌, ◌*◌, ◌^◌, ◌≤◌, ◌<◌, length, drop};
 ghost use Rattle.rules.specs.Answers.{written_of};
 ghost use Rattle.rules.specs.Hour.{pair_width, open_width};

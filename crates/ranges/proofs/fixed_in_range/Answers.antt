@@ -1,0 +1,14 @@
+use mathlib.Core.Path.{sym, ◌∙◌}
+use borrow.Author.Tests.{not-true, not-false}
+use borrow.Author.Rules.{rules}
+use Rattle.rules.specs.Lines as lines
+use Rattle.ranges.specs.Inside as tests
+use Rattle.ranges.proofs.fixed_in_range.Goals as goal
+
+pub returns-then-not-up_to : goal.returns-then-not-up_to
+unfolding lines.ranged tests.plant_inside
+returns-then-not-up_to c = rw (sym c.up_to.ensures ∙ c.if-not-up_to.true)
+
+pub returns : goal.returns
+unfolding lines.ranged tests.plant_inside
+returns c = rw (sym c.up_to.ensures ∙ c.if-not-up_to.false)

@@ -1,0 +1,20 @@
+use mathlib.Core.Path.{sym, ◌∙◌}
+use borrow.Author.Tests.{not-true, not-false}
+use borrow.Author.Rules.{rules}
+use Rattle.rules.specs.Lines as lines
+use Rattle.ranges.specs.Inside as tests
+use Rattle.ranges.proofs.purchase_in_range.Goals as goal
+
+pub returns-then-not-up_to : goal.returns-then-not-up_to
+unfolding lines.ranged tests.plant_inside
+returns-then-not-up_to c = rw (sym c.up_to.ensures ∙ c.if-not-up_to.true)
+
+pub returns-then-not-up_to-2 : goal.returns-then-not-up_to-2
+unfolding lines.ranged tests.plant_inside
+returns-then-not-up_to-2 c =
+    rw (sym c.up_to.ensures ∙ c.if-not-up_to.false, sym c.up_to-2.ensures ∙ c.if-not-up_to-2.true)
+
+pub returns : goal.returns
+unfolding lines.ranged tests.plant_inside
+returns c =
+    rw (sym c.up_to.ensures ∙ c.if-not-up_to.false, sym c.up_to-2.ensures ∙ c.if-not-up_to-2.false)
