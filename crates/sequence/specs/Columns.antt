@@ -32,14 +32,14 @@ pub record Columns (ts : List Delivery) (n : ℕ) (kinds blocks : List ℕ) (own
   pub number : Column no_number own_number ts n own
 
 -- delivery j's own number in its column
-abbrev pub field_own : List InternalSequence → ℕ → InternalSequence
-field_own own j = get_or own j no_number
+abbrev pub own_at : List InternalSequence → ℕ → InternalSequence
+own_at own j = get_or own j no_number
 
 -- columns of small numbers
 pub record Ranged (blocks : List ℕ) (own : List InternalSequence) (n : ℕ) : Type 0 where
   pub n_small : n ≤ 32
   pub block : (j : ℕ) → j < n → get_or blocks j 0 ≤ 99
-  pub number : (j : ℕ) → j < n → (field_own own j).0 ≤ 990
+  pub number : (j : ℕ) → j < n → (own_at own j).0 ≤ 990
 
 abbrev pub is_unplaced : InternalSequence → Bool
 is_unplaced x = eqb x.0 0
@@ -155,11 +155,11 @@ module _ (kinds blocks : List ℕ) (own : List InternalSequence) (greatest : Boo
   unfolding matches
   best_none passes = record { small = omega arith; is = λ ts c. refl }
 
-  pub best_more : (x : Sought) (i : ℕ) (s r v : InternalSequence) → Best kinds blocks own i greatest (sought x) s → (field_own own i).0 ≤ 990 →
-      v ≡ number_if x (get_or kinds i 0) (get_or blocks i 0) (field_own own i) → r ≡ better_of greatest s v → Best kinds blocks own (i + 1) greatest (sought x) r
+  pub best_more : (x : Sought) (i : ℕ) (s r v : InternalSequence) → Best kinds blocks own i greatest (sought x) s → (own_at own i).0 ≤ 990 →
+      v ≡ number_if x (get_or kinds i 0) (get_or blocks i 0) (own_at own i) → r ≡ better_of greatest s v → Best kinds blocks own (i + 1) greatest (sought x) r
   unfolding matches
   best_more x i s r v b l p q = record {
-    small = rw q (better_small greatest s v b.small (rw p (number_if_small x (get_or kinds i 0) (get_or blocks i 0) (field_own own i) l)));
+    small = rw q (better_small greatest s v b.small (rw p (number_if_small x (get_or kinds i 0) (get_or blocks i 0) (own_at own i) l)));
     is = λ ts c.
         let t = get_or ts i no_delivery in
         let same : v ≡ number_if x t.kind t.block (own_number t) = p ∙ rw (c.kind.at i (omega arith), c.block.at i (omega arith), c.number.at i (omega arith)) in

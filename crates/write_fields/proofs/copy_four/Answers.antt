@@ -1,0 +1,7 @@
+use borrow.Author.Rules.{rules}
+use Rattle.write_fields.specs.Inked.{inked_then, room_first, room_after, front_two}
+use Rattle.write_fields.proofs.copy_four.Goals as goal
+
+pub returns : goal.returns
+returns c =
+    inked_then c.put_two-p.ensures c.put_two.ensures
