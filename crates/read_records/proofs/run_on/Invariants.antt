@@ -1,0 +1,19 @@
+use mathlib.Core.Bool.{true}
+use mathlib.Core.Path.{◌≡◌, ap, sym, ◌∙◌}
+use Prim.Native.Nat.{◌≤◌, ◌-◌}
+use native.Mathlib.Omega.{arith}
+use lib.ListN.{length, get_or, drop, get_or-eq_default}
+use borrow.Author.Rules.{rules}
+use borrow.Author.Tests.{not-true, not-false}
+use Rattle.rules.specs.Fields.{run, is_digit}
+use Rattle.roundtrip.specs.Numbers.{digit_from}
+use Rattle.read_records.specs.Answers.{number_field}
+use Rattle.read_records.proofs.Numbers.{cut_stop, cut_more}
+use Rattle.read_records.proofs.run_on.Given as goal
+
+abbrev pub invariant-loop-i : goal.invariant-loop-i
+invariant-loop-i l = (l.v ≤ 9_223_372_036_854_775_809) × (number_field (run l.v l.i (drop l.i l.s)) ≡ number_field (run l.before l.at (drop l.at l.s)))
+
+abbrev pub decreases-loop-i : goal.decreases-loop-i
+decreases-loop-i l = length l.s - l.i
+
