@@ -51,49 +51,49 @@ abbrev deliveries-of : At-directs → At-deliveries
 deliveries-of c = c.before.before
 
 -- What was passed.
-few-told : (c : Counted) → few_entries (counts_of (start_of c).args.t1) ≡ true
+few-told : (c : Counted) → few_entries (counts_of (start_of c).args.h) ≡ true
 few-told c = sym c.before.few-entries.ensures ∙ not-false _ c.if1.false
 
-few : (c : Counted) → Few (counts_of (start_of c).args.t1)
+few : (c : Counted) → Few (counts_of (start_of c).args.h)
 few c = few_from _ (few-told c)
 
-sources-told : (c : Past-sources) → let at-sources = c.before in let h = (start_of (counts_of at-sources)).args.t1 in let l = at-sources.loop in SourcesTo h l.slo l.shi l.high l.totals 32 h.nsources
+sources-told : (c : Past-sources) → let at-sources = c.before in let h = (start_of (counts_of at-sources)).args.h in let l = at-sources.loop in SourcesTo h l.slo l.shi l.high l.totals 32 h.nsources
 sources-told c =
     let at-sources = c.before in
     let counted = counts_of at-sources in
     let l = at-sources.loop in
-    places_all (SourcesTo (start_of counted).args.t1 l.slo l.shi l.high l.totals) _ _ l.invariant.1 (few counted).sources l.invariant.0 c.loop-test.false
+    places_all (SourcesTo (start_of counted).args.h l.slo l.shi l.high l.totals) _ _ l.invariant.1 (few counted).sources l.invariant.0 c.loop-test.false
 
-deliveries-told : (c : Past-deliveries) → let at-deliveries = c.before in let h = (start_of (counts_of (sources-of at-deliveries))).args.t1 in let l = at-deliveries.loop2 in DeliveriesTo h l.tlo l.thi l.totals 32 h.ndeliveries
+deliveries-told : (c : Past-deliveries) → let at-deliveries = c.before in let h = (start_of (counts_of (sources-of at-deliveries))).args.h in let l = at-deliveries.loop2 in DeliveriesTo h l.tlo l.thi l.totals 32 h.ndeliveries
 deliveries-told c =
     let at-deliveries = c.before in
     let counted = counts_of (sources-of at-deliveries) in
     let l = at-deliveries.loop2 in
-    places_all (DeliveriesTo (start_of counted).args.t1 l.tlo l.thi l.totals) _ _ l.invariant.1 (few counted).deliveries l.invariant.0 c.loop2-test.false
+    places_all (DeliveriesTo (start_of counted).args.h l.tlo l.thi l.totals) _ _ l.invariant.1 (few counted).deliveries l.invariant.0 c.loop2-test.false
 
-sources-long : (c : Start) → length c.args.t1.sources ≡ 32
+sources-long : (c : Start) → length c.args.h.sources ≡ 32
 sources-long c = search (rules, length_mapped)
 
-deliveries-long : (c : Start) → length c.args.t1.deliveries ≡ 32
+deliveries-long : (c : Start) → length c.args.h.deliveries ≡ 32
 deliveries-long c = search (rules, length_mapped)
 
-directs-long : (c : Start) → length c.args.t1.directs ≡ 32
+directs-long : (c : Start) → length c.args.h.directs ≡ 32
 directs-long c = search (rules, length_mapped)
 
 pub returns-then-not-few_entries : goal.returns-then-not-few_entries
 returns-then-not-few_entries c =
-    fails_valid c.args.t1 _ (λ p. p.few) (sym c.few_entries.ensures ∙ c.if-not-few_entries.true)
+    fails_valid c.args.h _ (λ p. p.few) (sym c.few_entries.ensures ∙ c.if-not-few_entries.true)
 
 pub returns-then-not-losses_in_range : goal.returns-then-not-losses_in_range
 returns-then-not-losses_in_range c =
-    fails_valid (start_of c).args.t1 _ (λ p. p.losses) (sym c.losses_in_range.ensures ∙ c.if-not-losses_in_range.true)
+    fails_valid (start_of c).args.h _ (λ p. p.losses) (sym c.losses_in_range.ensures ∙ c.if-not-losses_in_range.true)
 
 pub loop-i-init : goal.loop-i-init
 loop-i-init c = (search rules, sources_none _)
 
 pub returns-then-not-source_stands : goal.returns-then-not-source_stands
 returns-then-not-source_stands c =
-    let h = (start_of (counts_of c)).args.t1 in
+    let h = (start_of (counts_of c)).args.h in
     fails_valid h _ (λ p. p.sources.all) (source_fails h _ _ _ _ _ c.loop-i.invariant.1 _ c.source_stands.ensures.0 (c.if-not-source_stands.true) c.loop-i-test.true)
 
 pub loop-i-preserved : goal.loop-i-preserved
@@ -111,7 +111,7 @@ delivery_stands-requires c =
 
 pub returns-then-not-delivery_stands : goal.returns-then-not-delivery_stands
 returns-then-not-delivery_stands c =
-    let h = (start_of (counts_of (sources-of c))).args.t1 in
+    let h = (start_of (counts_of (sources-of c))).args.h in
     fails_valid h _ (λ p. p.deliveries.all) (delivery_fails h _ _ _ _ c.loop-j.invariant.1 _ c.delivery_stands.ensures.0 (c.if-not-delivery_stands.true) c.loop-j-test.true)
 
 pub loop-j-preserved : goal.loop-j-preserved
@@ -130,7 +130,7 @@ direct_stands-requires c =
 pub returns-then-not-direct_stands : goal.returns-then-not-direct_stands
 returns-then-not-direct_stands c =
     let past-sources = (deliveries-of c).before in
-    let h = (start_of (counts_of past-sources.before)).args.t1 in
+    let h = (start_of (counts_of past-sources.before)).args.h in
     fails_valid h _ (λ p. p.directs.all) (direct_fails h _ _ _ _ (sources-told past-sources).highs c.loop-k.invariant.1 _ c.direct_stands.ensures.0 (c.if-not-direct_stands.true) c.loop-k-test.true)
 
 pub loop-k-preserved : goal.loop-k-preserved
@@ -146,14 +146,14 @@ finish-requires c =
 
 pub returns-in_default : goal.returns-in_default
 returns-in_default c =
-    let finished-is : let start = start_of (counts_of (sources-of (deliveries-of c))) in c.finish.result ≡ verdict_of (finished start.args.t1) = c.finish.ensures ∙ finished_by_lem _ _ (deliveries-told c).totals in
-    fails_valid (start_of (counts_of (sources-of (deliveries-of c)))).args.t1 _ (λ p. p.done) (ap accepts (sym (finished-is) ∙ c.in_default.is))
+    let finished-is : let start = start_of (counts_of (sources-of (deliveries-of c))) in c.finish.result ≡ verdict_of (finished start.args.h) = c.finish.ensures ∙ finished_by_lem _ _ (deliveries-told c).totals in
+    fails_valid (start_of (counts_of (sources-of (deliveries-of c)))).args.h _ (λ p. p.done) (ap accepts (sym (finished-is) ∙ c.in_default.is))
 
 pub returns : goal.returns
 returns c =
-    let finished-is : let start = start_of (counts_of (sources-of (deliveries-of c))) in c.finish.result ≡ verdict_of (finished start.args.t1) = c.finish.ensures ∙ finished_by_lem _ _ (deliveries-told c).totals in
+    let finished-is : let start = start_of (counts_of (sources-of (deliveries-of c))) in c.finish.result ≡ verdict_of (finished start.args.h) = c.finish.ensures ∙ finished_by_lem _ _ (deliveries-told c).totals in
     let start = start_of c in
-    passes_valid start.args.t1
+    passes_valid start.args.h
     (record {
       few = few-told c;
       losses = sym c.losses_in_range.ensures ∙ c.if-not-losses_in_range.false;

@@ -19,7 +19,7 @@ loop-at-init c = (search rules, sym (all_to_zero _))
 
 pub loop-at-preserved : goal.loop-at-preserved
 loop-at-preserved c =
-    let l = c.args.t1 in
+    let l = c.args.l in
     let at = c.loop-at in
     let past = le-ltb at.at l.len (omega arith) in
     (search rules, all_to_next _ _ _ _ at.invariant.1 (c.own_byte-all.ensures ∙ ap (λ (b : Bool). own_byte b (get_or l.bytes at.at 0)) (sym past)))
@@ -27,7 +27,7 @@ loop-at-preserved c =
 pub returns : goal.returns
 unfolding shape.blank_label shape.padded
 returns c =
-    let l = c.args.t1 in
+    let l = c.args.l in
     let size : length l.bytes ≡ 16 = search rules in
     let end : c.loop-at.at ≡ 16 = omega arith in
     rw (eq-eqb _ _ c.if-l-ne0.false, eq-eqb _ _ size) (rw end at c.loop-at.invariant.1)

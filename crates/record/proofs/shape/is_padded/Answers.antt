@@ -16,7 +16,7 @@ loop-i-init c = (search rules, sym (all_to_zero _))
 pub loop-i-preserved : goal.loop-i-preserved
 loop-i-preserved c =
     let at = c.loop-i in
-    let l = c.args.t1 in (
+    let l = c.args.l in (
       search rules,
       all_to_next _ _ _ _ at.invariant.1 (c.own_byte-all.ensures ∙ ap (λ (n : ℕ). own_byte (ltb at.i n) (get_or l.bytes at.i 0)) c.size-n.ensures),
     )
@@ -24,6 +24,6 @@ loop-i-preserved c =
 pub returns : goal.returns
 unfolding shape.padded
 returns c =
-    let size : length c.args.t1.bytes ≡ 16 = search rules in
+    let size : length c.args.l.bytes ≡ 16 = search rules in
     let end : c.loop-i.i ≡ 16 = omega arith in
     rw (eq-eqb _ _ size) (rw end at c.loop-i.invariant.1)
