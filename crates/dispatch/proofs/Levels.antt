@@ -1,4 +1,4 @@
--- The invariants of both engines with the merits of what is left: a block More of the highest, and all that share the best merit in their turn.
+-- The invariants of both engines with the merits of what is left: a block more of the highest, and all that share the best merit in their turn.
 use mathlib.Core.Bool.{Bool, true, false}
 use mathlib.Core.List.{List}
 use mathlib.Core.Logic.{inl, inr, ◌≢◌}
@@ -73,7 +73,7 @@ module _ {one step cap t : List ℕ} where
       lower a j la lj ra rj (inl b) = inl (omega (arith, (s.next a la).left ra, (s.next j lj).left rj))
       lower a j la lj ra rj (inr b) = inr (omega (arith, b.0, (s.next a la).left ra, (s.next j lj).left rj), b.1)
 
--- what is left after More of a source is no better
+-- what is left after more of a source is no better
 next_falls : {one step cap m x : ℕ} (k g : ℕ) → Next one step cap k m → Next one step cap (k + g) x → x ≤ m
 next_falls {step = step} {cap = cap} k g a b = elim (dec_lt (k + g) cap) [
   | no l ↦ omega (arith, b.none (omega arith))

@@ -18,7 +18,7 @@ use Rattle.merit.specs.Settled.{More, Beats}
 use Rattle.rules.specs.Words as Words
 use Rattle.rules.specs.Words.{sum_to}
 
--- no two parts are More than the sum
+-- no two parts are more than the sum
 sum_to_two : (f : ℕ → ℕ) (n i j : ℕ) → i < n → j < n → i ≢ j → f i + f j ≤ sum_to f n
 unfolding Words.sum_to
 sum_to_two f zero i j li lj ne = absurd (omega arith)

@@ -32,7 +32,7 @@ pub record Taken (up : Bool) (one step cap : List ℕ) (n total : ℕ) (t : List
   pub adds : sum_to (at t) n ≡ total
   pub settled : Settled More (First up) n (at cap) (merit one step) (at t)
 
--- one More than the merit of a source's MWh k, 0 where it has none
+-- one more than the merit of a source's MWh k, 0 where it has none
 pub record Next (one step cap k m : ℕ) : Type 0 where
   pub left : k < cap → (m ≡ one - step * k) × (0 < m)
   pub none : cap ≤ k → m ≡ 0

@@ -23,7 +23,7 @@ pub record LinesOf (up : Bool) (room_of : Running → ℕ) (ss : List Running) (
 
 module _ {up : Bool} {room_of : Running → ℕ} {ss : List Running} where
   module _ {one step cap : List ℕ} {n : ℕ} (s : LinesOf up room_of ss one step cap n) where
-    -- one source More
+    -- one source more
     pub lines_more : {o d x : ℕ} → n < lanes → Lined up (price (state_at ss n).plant) (level (state_at ss n)) o d x → x ≡ room_of (state_at ss n) → LinesOf up room_of ss (set one n o) (set step n d) (set cap n x) (n + 1)
     lines_more {o} {d} {x} l new here = record {
       long_one = length-set one n o ∙ s.long_one;

@@ -1,0 +1,19 @@
+use mathlib.Core.Path.{ap, ◌∙◌}
+use Prim.Native.Nat.{ℕ, ◌-◌}
+use native.Mathlib.Omega.{arith}
+use Rattle.rules.specs.Group.{plain, last_step, to_emergency}
+use Rattle.group.specs.Settling.{settled_done, settled_refused, outcome_no_headroom, outcome_no_room, outcome_last}
+use Rattle.group.proofs.settle_last.Goals as goal
+
+pub returns-then-up : goal.returns-then-up
+returns-then-up c =
+    let a = c.args in settled_refused a.states (outcome_no_headroom a.number a.up a.n a.states a.total c.requires.short c.if-up.true)
+
+pub returns-then-rooms-total : goal.returns-then-rooms-total
+returns-then-rooms-total c =
+    let a = c.args in settled_refused a.states (outcome_no_room a.number a.up a.n a.states a.total c.requires.short c.if-up.false (omega (arith, c.if-rooms-total.true, c.rooms.ensures)))
+
+pub returns : goal.returns
+returns c =
+    let a = c.args in
+    settled_done a.states (c.below_emergency.ensures ∙ ap (λ (x : ℕ). plain last_step a.n (to_emergency a.states) (a.total - x)) c.rooms-lowered.ensures) (outcome_last a.number a.up a.n a.states a.total c.requires.short c.if-up.false (omega (arith, c.if-rooms-total.false, c.rooms.ensures)))
