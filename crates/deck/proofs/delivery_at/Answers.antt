@@ -1,13 +1,9 @@
-use mathlib.Core.Path.{refl, ap, sym, ◌∙◌}
-use native.Mathlib.Omega.{arith}
-use lib.ListN.{set}
+use mathlib.Core.Path.{sym, ◌∙◌}
 use Rattle.laws.specs.Answers.{verdict_accepted}
 use Rattle.read_lines.specs.Cut.{LabelStands}
 use Rattle.line_rules.specs.TablesKept.{delivery_let}
-use Rattle.line_rules.specs.declared.Spelling.{Spelling}
 use Rattle.deck.specs.Steps.{delivery_made}
 use Rattle.deck.specs.LabelsTold.{delivery_told}
-use borrow.Author.Rules.{rules}
 use Rattle.deck.proofs.delivery_at.Goals as goal
 
 pub slice_bounds-label_at-count : goal.slice_bounds-label_at-count
@@ -37,8 +33,7 @@ label_at-label-requires c =
 pub returns-in-Refused-clause-step : goal.returns-in-Refused-clause-step
 returns-in-Refused-clause-step c =
     let is = c.in-Refused.is in
-    let line = c in
-    let start = begun line in delivery_made start.args.s.now start.args.n start.args.totals start.args.lo.now start.args.hi.now (sym line.before.before.delivery.ensures ∙ line.sequence.given.1) c.label_at-label.ensures c.spelling_of-spelling.ensures c.delivery_in_range-ranged.ensures c.take_delivery-verdict.ensures c.add_delivery-summed.ensures.0
+    let start = c in delivery_made start.args.s.now start.args.n start.args.totals start.args.lo.now start.args.hi.now (sym c.delivery.ensures ∙ c.in-Read.is) c.label_at-label.ensures c.spelling_of-spelling.ensures c.delivery_in_range-ranged.ensures c.take_delivery-verdict.ensures c.add_delivery-summed.ensures.0
 
 pub keep_spelling-requires : goal.keep_spelling-requires
 keep_spelling-requires c =
@@ -48,6 +43,5 @@ pub returns-clause-step : goal.returns-clause-step
 returns-clause-step c =
     let kept = c.keep_spelling.ensures in
     let is = c.in_default-verdict.is in
-    let line = c in
-    let start = begun line in
-    let spelled = c.spelling_of-spelling.ensures in delivery_made start.args.s.now start.args.n start.args.totals start.args.lo.now start.args.hi.now (sym line.before.before.delivery.ensures ∙ line.sequence.given.1) c.label_at-label.ensures c.spelling_of-spelling.ensures c.delivery_in_range-ranged.ensures c.take_delivery-verdict.ensures c.add_delivery-summed.ensures.0
+    let start = c in
+    let spelled = c.spelling_of-spelling.ensures in delivery_made start.args.s.now start.args.n start.args.totals start.args.lo.now start.args.hi.now (sym c.delivery.ensures ∙ c.in-Read.is) c.label_at-label.ensures c.spelling_of-spelling.ensures c.delivery_in_range-ranged.ensures c.take_delivery-verdict.ensures c.add_delivery-summed.ensures.0

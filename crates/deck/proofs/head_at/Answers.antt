@@ -1,7 +1,5 @@
 use mathlib.Core.Path.{sym, ◌∙◌}
-use borrow.Author.Tests.{not-true, not-false}
-use borrow.Author.Rules.{rules}
-use Rattle.deck.specs.Head.{too_long, no_head, head_malformed, head_outside, head_started}
+use Rattle.deck.specs.Head.{no_head, head_malformed, head_outside, head_started}
 use Rattle.deck.proofs.head_at.Goals as goal
 
 pub returns-in_default : goal.returns-in_default

@@ -1,13 +1,10 @@
-use mathlib.Core.Path.{refl, ap, sym, ◌∙◌}
+use mathlib.Core.Path.{sym, ◌∙◌}
 use native.Mathlib.Omega.{arith}
-use lib.ListN.{set}
 use Rattle.laws.specs.Answers.{verdict_accepted}
 use Rattle.read_lines.specs.Cut.{LabelStands}
 use Rattle.line_rules.specs.TablesKept.{source_let}
-use Rattle.line_rules.specs.declared.Spelling.{Spelling}
 use Rattle.deck.specs.Steps.{source_made}
 use Rattle.deck.specs.LabelsTold.{source_told}
-use borrow.Author.Rules.{rules}
 use Rattle.deck.proofs.source_at.Goals as goal
 
 pub slice_bounds-label_at-count : goal.slice_bounds-label_at-count
@@ -37,8 +34,7 @@ label_at-label-requires c =
 pub returns-in-Refused-clause-step : goal.returns-in-Refused-clause-step
 returns-in-Refused-clause-step c =
     let is = c.in-Refused.is in
-    let line = c in
-    let start = begun line in source_made start.args.s.now start.args.at start.args.letter start.args.n start.args.totals start.args.lo.now start.args.hi.now (sym line.before.before.plant-at.ensures ∙ line.ranged.given.1) c.label_at-label.ensures c.spelling_of-spelling.ensures c.take_source-verdict.ensures c.add_source-summed.ensures.0
+    let start = c in source_made start.args.s.now start.args.at start.args.letter start.args.n start.args.totals start.args.lo.now start.args.hi.now (sym c.plant_at.ensures ∙ c.in-Read.is) c.label_at-label.ensures c.spelling_of-spelling.ensures c.take_source-verdict.ensures c.add_source-summed.ensures.0
 
 pub keep_source-requires : goal.keep_source-requires
 keep_source-requires c =
@@ -48,6 +44,5 @@ pub returns-clause-step : goal.returns-clause-step
 returns-clause-step c =
     let kept = c.keep_source.ensures in
     let is = c.in_default-verdict.is in
-    let line = c in
-    let start = begun line in
-    let spelled = c.spelling_of-spelling.ensures in source_made start.args.s.now start.args.at start.args.letter start.args.n start.args.totals start.args.lo.now start.args.hi.now (sym line.before.before.plant-at.ensures ∙ line.ranged.given.1) c.label_at-label.ensures c.spelling_of-spelling.ensures c.take_source-verdict.ensures c.add_source-summed.ensures.0
+    let start = c in
+    let spelled = c.spelling_of-spelling.ensures in source_made start.args.s.now start.args.at start.args.letter start.args.n start.args.totals start.args.lo.now start.args.hi.now (sym c.plant_at.ensures ∙ c.in-Read.is) c.label_at-label.ensures c.spelling_of-spelling.ensures c.take_source-verdict.ensures c.add_source-summed.ensures.0

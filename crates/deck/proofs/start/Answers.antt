@@ -1,5 +1,4 @@
 use Rattle.rules.specs.Record as record_of
-use borrow.Author.Rules.{rules}
 use Rattle.deck.proofs.start.Goals as goal
 
 pub returns : goal.returns

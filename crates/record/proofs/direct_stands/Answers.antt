@@ -1,7 +1,6 @@
 use mathlib.Core.Path.{sym, ◌∙◌}
 use native.Mathlib.Omega.{arith}
-use borrow.Author.Tests.{lt-ltb, le-ltb, not-true, not-false}
-use borrow.Author.Rules.{rules}
+use borrow.Author.Tests.{lt-ltb, le-ltb}
 use Rattle.record.specs.Own as own
 use Rattle.record.specs.OwnTells.{direct_own_lem, own_total}
 use Rattle.record.proofs.direct_stands.Goals as goal

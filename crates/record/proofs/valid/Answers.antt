@@ -1,18 +1,15 @@
 -- Each loop tries the places of a class, with the tables of the entries before; a test that fails is enough.
 use mathlib.Core.Path.{◌≡◌, sym, ap, ◌∙◌}
-use mathlib.Core.Bool.{true}
 use native.Mathlib.Omega.{arith}
-use lib.ListN.{length}
 use borrow.Author.Rules.{rules}
 use Rattle.rules.specs.Answers.{verdict_of}
 use Rattle.rules.specs.Reading.{finished}
-use Rattle.rules.specs.declared.Hour.{Hour}
 use Rattle.line_rules.specs.Tried.{counts_of, Few}
 use Rattle.line_rules.specs.Totalled.{finished_by_lem}
 use Rattle.record.specs.Loops.{all_to_end, length_mapped}
-use Rattle.record.specs.Own.{few_entries, accepts}
+use Rattle.record.specs.Own.{accepts}
 use Rattle.record.specs.OwnTells.{few_from}
-use Rattle.record.specs.Steps.{places_all, SourcesTo, sources_none, source_fails, sources_on, DeliveriesTo, deliveries_none, delivery_fails, deliveries_on, DirectsTo, directs_none, direct_fails, directs_on}
+use Rattle.record.specs.Steps.{places_all, SourcesTo, sources_none, source_fails, sources_on, DeliveriesTo, deliveries_none, delivery_fails, deliveries_on, directs_none, direct_fails, directs_on}
 use Rattle.record.specs.OwnIsValid.{passes_valid, fails_valid}
 use Rattle.record.proofs.valid.Goals as goal
 
