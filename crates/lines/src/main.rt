@@ -6,6 +6,7 @@ ghost use Rattle.std.specs.Prelude.{◌≡◌, length};
 
 use frames::Ending;
 use rules::{Refusal, Written};
+use std::io::{Read, Write};
 use words::WORDS;
 
 // The most bytes of a file here. It rests on the stack, which has the window and the room for the lines on it, 3 MiB in all: Linux gives a process 8 MiB
@@ -32,41 +33,46 @@ fn room() -> [u8; ROOM]
 }
 
 // Words about a refused file, for a person. Where standard error is closed, nobody reads them.
-fn explain(file: &[u8], record: usize) {
-    let mut out = [0u8; WORDS];
-    let n = words::explain_record(file, record, &mut out);
-    io::write_all(2, &out[0..n]);
+fn explain<E: Write>(errors: &mut E, file: &[u8], record: usize) {
+    let mut text = [0u8; WORDS];
+    let n = words::explain_record(file, record, &mut text);
+    let _ = errors.write_all(&text[0..n]);
 }
 
 // No other refusal can come: there is room for the lines of every file here.
-fn put_refusal(file: &[u8], r: Refusal) -> Ending {
+fn put_refusal<W: Write, E: Write>(out: &mut W, errors: &mut E, file: &[u8], r: Refusal) -> Ending {
     let Refusal::FileRecord(record) = r else {
         return Ending::Unwritten;
     };
-    if !frames::put_line(1, b"refused 16 ", record as u64) {
+    if !frames::put_line(out, b"refused 16 ", record as u64) {
         return Ending::Unwritten;
     }
-    explain(file, record);
+    explain(errors, file, record);
     Ending::Refused
 }
 
-fn put_text(text: &[u8], n: usize) -> Ending {
-    if !frames::put_first(text, n) {
+fn put_text<W: Write>(out: &mut W, text: &[u8], n: usize) -> Ending {
+    if !frames::put_first(out, text, n) {
         return Ending::Unwritten;
     }
     Ending::Written
 }
 
-fn put_lines(file: &[u8]) -> Ending {
-    let mut out = room();
-    match print_file::lines(file, &mut out) {
-        Written::Count(n) => put_text(&out, n),
-        Written::Refused(r) => put_refusal(file, r),
+fn put_lines<W: Write, E: Write>(out: &mut W, errors: &mut E, file: &[u8]) -> Ending {
+    let mut text = room();
+    match print_file::lines(file, &mut text) {
+        Written::Count(n) => put_text(out, &text, n),
+        Written::Refused(r) => put_refusal(out, errors, file, r),
     }
 }
 
-fn run(window: &mut [u8]) -> Ending {
-    let g = frames::fill(window);
+fn run<I: Read, W: Write, E: Write>(
+    input: &mut I,
+    out: &mut W,
+    errors: &mut E,
+    window: &mut [u8],
+) -> Ending {
+    let g = frames::fill(input, window);
     if g.failed {
         return Ending::Unread;
     }
@@ -74,10 +80,14 @@ fn run(window: &mut [u8]) -> Ending {
     if MOST < n {
         return Ending::TooLong;
     }
-    put_lines(&window[0..n])
+    put_lines(out, errors, &window[0..n])
 }
 
-fn main() {
+fn main(rt: HostRuntime) {
     let mut window = window();
-    frames::tell(run(&mut window));
+    let mut input = rt.stdin();
+    let mut out = rt.stdout();
+    let mut errors = rt.stderr();
+    let ending = run(&mut input, &mut out, &mut errors, &mut window);
+    frames::tell(&rt, ending);
 }
