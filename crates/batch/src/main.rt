@@ -7,13 +7,14 @@
 use frames::{Coming, Ending};
 use rules::Written;
 use std::io::{Read, Write};
+use std::process::ExitCode;
 use std::rt::Files;
 use words::WORDS;
 
 // Words about a refused deck, for a person, after a line with the frame's number and the rest of its head. Where standard error is closed, nobody
 // reads them.
 fn put_words<E: Write>(errors: &mut E, k: u64, rest: &[u8], text: &[u8]) {
-    frames::put_number(errors, b"frame ", k, rest);
+    let _ = frames::put_number(errors, b"frame ", k, rest);
     let _ = errors.write_all(text);
 }
 
@@ -42,8 +43,8 @@ fn put_report<W: Write, E: Write>(
     let Written::Count(n) = print_report::report(deck, &mut text) else {
         return Ending::Unwritten;
     };
-    if !frames::put_answer(out, b"report ", rest, &text, n) {
-        return Ending::Unwritten;
+    if let Err(ending) = frames::put_answer(out, b"report ", rest, &text, n) {
+        return ending;
     }
     if frames::tells_refusal(&text) {
         explain(errors, deck, k, rest);
@@ -64,16 +65,16 @@ fn put_spreadsheet<W: Write, E: Write>(
     let Written::Count(n) = write_spreadsheet::deck_spreadsheet(deck, &mut text) else {
         return put_report(out, errors, deck, k, rest);
     };
-    if !frames::put_answer(out, b"spreadsheet ", rest, &text, n) {
-        return Ending::Unwritten;
+    if let Err(ending) = frames::put_answer(out, b"spreadsheet ", rest, &text, n) {
+        return ending;
     }
     Ending::Written
 }
 
 // The answer to a frame whose bytes were passed over: 1.
 fn put_over<W: Write, E: Write>(out: &mut W, errors: &mut E, k: u64, rest: &[u8]) -> Ending {
-    if !frames::put_answer(out, b"report ", rest, b"refused 1 0\n", 12) {
-        return Ending::Unwritten;
+    if let Err(ending) = frames::put_answer(out, b"report ", rest, b"refused 1 0\n", 12) {
+        return ending;
     }
     explain_over(errors, k, rest);
     Ending::Refused
@@ -107,10 +108,10 @@ fn last<W: Write>(out: &mut W, coming: Coming, k: u64, so_far: Ending) -> Ending
     match coming {
         Coming::Unread => Ending::Unread,
         Coming::Broken => {
-            if frames::put_line(out, b"frame ", k) {
-                Ending::Refused
+            if let Err(ending) = frames::put_line(out, b"frame ", k) {
+                ending
             } else {
-                Ending::Unwritten
+                Ending::Refused
             }
         }
         _ => so_far,
@@ -119,7 +120,7 @@ fn last<W: Write>(out: &mut W, coming: Coming, k: u64, so_far: Ending) -> Ending
 
 fn is_failure(ending: Ending) -> bool {
     match ending {
-        Ending::Unread | Ending::Unwritten => true,
+        Ending::Unread | Ending::Unwritten | Ending::Unheard => true,
         _ => false,
     }
 }
@@ -134,7 +135,7 @@ fn worse(so_far: Ending, ending: Ending) -> Ending {
 // How many decks are done, for a person who watches.
 fn show<R: Files>(rt: &R, done: u64, after: &[u8]) {
     if let Some(mut watcher) = frames::lent(rt, "/proc/self/fd/4") {
-        frames::put_number(&mut watcher, b"barleyhood: decks done: ", done, after);
+        let _ = frames::put_number(&mut watcher, b"barleyhood: decks done: ", done, after);
     }
 }
 
@@ -188,11 +189,12 @@ fn run<R: Files, I: Read, W: Write, E: Write>(
     so_far
 }
 
-fn main(rt: HostRuntime) {
+fn main(rt: HostRuntime) -> ExitCode {
     let mut window = frames::large_buffer();
     let mut input = rt.stdin();
     let mut out = rt.stdout();
     let mut errors = rt.stderr();
     let ending = run(&rt, &mut input, &mut out, &mut errors, &mut window);
     frames::tell(&rt, ending);
+    frames::status(ending)
 }

@@ -7,10 +7,12 @@ ghost use Rattle.std.specs.Prelude.{◌≡◌, ◌≤◌, ◌<◌, length};
 
 use std::fs;
 use std::fs::OpenOptions;
-use std::io::{Read, Write};
+use std::io::{Error, ErrorKind, Read, Write};
+use std::process::ExitCode;
 use std::rt::Files;
 
-// How a run ended: all written; a deck or file refused or a frame broken; a read that failed; a write that failed; an input longer than the program takes.
+// How a run ended: all written; a deck or file refused or a frame broken; a read that failed; a write that failed; an input longer than the program
+// takes; answers into a pipe that nobody reads any more.
 #[derive(Clone, Copy)]
 pub enum Ending {
     Written,
@@ -18,6 +20,17 @@ pub enum Ending {
     Unread,
     Unwritten,
     TooLong,
+    Unheard,
+}
+
+// How a run ends by a write that failed.
+impl From<Error> for Ending {
+    fn from(e: Error) -> Ending {
+        match e.kind() {
+            ErrorKind::BrokenPipe => Ending::Unheard,
+            _ => Ending::Unwritten,
+        }
+    }
 }
 
 // An ending as it is told.
@@ -28,6 +41,7 @@ fn told(ending: Ending) -> &'static str {
         Ending::Unread => "2 read\n",
         Ending::Unwritten => "2 write\n",
         Ending::TooLong => "2 long\n",
+        Ending::Unheard => "",
     }
 }
 
@@ -43,12 +57,25 @@ pub fn lent<R: Files>(rt: &R, name: &str) -> Option<R::File> {
     OpenOptions::new().append(true).open(rt, name).ok()
 }
 
-// The ending told on descriptor 3. Where that is closed, nobody asked.
+// The ending told on descriptor 3. Where that is closed, nobody asked; where nobody reads the answers, it is not told, as by a program that such a pipe
+// killed.
 pub fn tell<R: Files>(rt: &R, ending: Ending) {
+    let line = told(ending);
+    if line.len() == 0 {
+        return;
+    }
     let Some(mut asker) = lent(rt, "/proc/self/fd/3") else {
         return;
     };
-    let _ = asker.write_all(told(ending).as_bytes());
+    let _ = asker.write_all(line.as_bytes());
+}
+
+// The exit status: 0, but where nobody reads the answers that of a program that such a pipe killed, as shells have it.
+pub fn status(ending: Ending) -> ExitCode {
+    match ending {
+        Ending::Unheard => ExitCode::from(141),
+        _ => ExitCode::SUCCESS,
+    }
 }
 
 // Room for an input: more than a deck may have. Zeros, so many that the checker must not count them: a caller knows their number by the contract.
@@ -399,31 +426,37 @@ fn at_end(a: usize, b: usize) -> Frame
     none(Coming::Broken)
 }
 
-// The first n bytes of a text, and whether they were written.
-pub fn put_first<W: Write>(out: &mut W, text: &[u8], n: usize) -> bool {
+// The first n bytes of a text, or how the run ends where they were not written.
+pub fn put_first<W: Write>(out: &mut W, text: &[u8], n: usize) -> Result<(), Ending> {
     if text.len() < n {
-        return false;
+        return Err(Ending::Unwritten);
     }
-    out.write_all(&text[0..n]).is_ok()
-}
-
-// A number's decimal digits.
-fn put_digits<W: Write>(out: &mut W, n: u64) -> bool {
-    write!(out, "{n}").is_ok()
+    out.write_all(&text[0..n])?;
+    Ok(())
 }
 
 // A frame's answer: the first n bytes of a text, after a head of a word and the rest of the frame's own.
-pub fn put_answer<W: Write>(out: &mut W, word: &[u8], rest: &[u8], text: &[u8], n: usize) -> bool {
-    put_number(out, word, n as u64, rest) && put_first(out, text, n)
+pub fn put_answer<W: Write>(
+    out: &mut W,
+    word: &[u8],
+    rest: &[u8],
+    text: &[u8],
+    n: usize,
+) -> Result<(), Ending> {
+    put_number(out, word, n as u64, rest)?;
+    put_first(out, text, n)
 }
 
 // A word and a number, and what follows it.
-pub fn put_number<W: Write>(out: &mut W, word: &[u8], n: u64, after: &[u8]) -> bool {
-    out.write_all(word).is_ok() && put_digits(out, n) && out.write_all(after).is_ok()
+pub fn put_number<W: Write>(out: &mut W, word: &[u8], n: u64, after: &[u8]) -> Result<(), Ending> {
+    out.write_all(word)?;
+    write!(out, "{n}")?;
+    out.write_all(after)?;
+    Ok(())
 }
 
 // A line of a word and a number.
-pub fn put_line<W: Write>(out: &mut W, word: &[u8], n: u64) -> bool {
+pub fn put_line<W: Write>(out: &mut W, word: &[u8], n: u64) -> Result<(), Ending> {
     put_number(out, word, n, b"\n")
 }
 

@@ -6,6 +6,7 @@ use frames::Ending;
 use rules::{Refusal, Written};
 use std::alloc::{AllocError, Global};
 use std::io::{Read, Write};
+use std::process::ExitCode;
 use words::WORDS;
 
 // The most bytes of a file here. The call itself has no such limit.
@@ -29,16 +30,16 @@ fn put_refusal<W: Write, E: Write>(out: &mut W, errors: &mut E, file: &[u8], r: 
     let Refusal::FileRecord(record) = r else {
         return Ending::Unwritten;
     };
-    if !frames::put_line(out, b"refused 16 ", record as u64) {
-        return Ending::Unwritten;
+    if let Err(ending) = frames::put_line(out, b"refused 16 ", record as u64) {
+        return ending;
     }
     explain(errors, file, record);
     Ending::Refused
 }
 
 fn put_text<W: Write>(out: &mut W, text: &[u8], n: usize) -> Ending {
-    if !frames::put_first(out, text, n) {
-        return Ending::Unwritten;
+    if let Err(ending) = frames::put_first(out, text, n) {
+        return ending;
     }
     Ending::Written
 }
@@ -75,11 +76,11 @@ fn run<I: Read, W: Write, E: Write>(
 }
 
 // Where there is no memory for a file and its lines, nothing is told.
-fn main(rt: HostRuntime) -> Result<(), AllocError> {
+fn main(rt: HostRuntime) -> Result<ExitCode, AllocError> {
     let mut input = rt.stdin();
     let mut out = rt.stdout();
     let mut errors = rt.stderr();
     let ending = run(rt.alloc(), &mut input, &mut out, &mut errors)?;
     frames::tell(&rt, ending);
-    Ok(())
+    Ok(frames::status(ending))
 }

@@ -5,6 +5,7 @@
 use frames::Ending;
 use rules::Written;
 use std::io::{Read, Write};
+use std::process::ExitCode;
 use words::WORDS;
 
 // Words about a refused deck, for a person. Where standard error is closed, nobody reads them.
@@ -20,8 +21,8 @@ fn put_refusal<W: Write, E: Write>(out: &mut W, errors: &mut E, deck: &[u8]) -> 
     let Written::Count(n) = print_report::report(deck, &mut text) else {
         return Ending::Unwritten;
     };
-    if !frames::put_first(out, &text, n) {
-        return Ending::Unwritten;
+    if let Err(ending) = frames::put_first(out, &text, n) {
+        return ending;
     }
     explain(errors, deck);
     Ending::Refused
@@ -33,8 +34,8 @@ fn put_file<W: Write, E: Write>(out: &mut W, errors: &mut E, deck: &[u8]) -> End
     let Written::Count(n) = write_spreadsheet::deck_spreadsheet(deck, &mut text) else {
         return put_refusal(out, errors, deck);
     };
-    if !frames::put_first(out, &text, n) {
-        return Ending::Unwritten;
+    if let Err(ending) = frames::put_first(out, &text, n) {
+        return ending;
     }
     Ending::Written
 }
@@ -53,11 +54,12 @@ fn run<I: Read, W: Write, E: Write>(
     put_file(out, errors, &window[0..n])
 }
 
-fn main(rt: HostRuntime) {
+fn main(rt: HostRuntime) -> ExitCode {
     let mut window = frames::large_buffer();
     let mut input = rt.stdin();
     let mut out = rt.stdout();
     let mut errors = rt.stderr();
     let ending = run(&mut input, &mut out, &mut errors, &mut window);
     frames::tell(&rt, ending);
+    frames::status(ending)
 }
