@@ -3,7 +3,9 @@
 // The input stands in a lent window, of which the bytes from `from` to `have` are not used yet; nothing else of it is kept.
 #![tactic(auto)]
 
-ghost use Rattle.std.specs.Prelude.{◌≡◌, ◌≤◌, ◌<◌, length};
+ghost use Rattle.std.specs.Prelude.{◌≡◌, ◌≤◌, ◌<◌, ◌++◌, ◌∷◌, [], length, take, OnOk};
+ghost use Rattle.std.specs.Fmt.{decimal};
+ghost use Rattle.std.specs.Io.KnownBytes.{Appends};
 
 use std::fs;
 use std::fs::OpenOptions;
@@ -427,7 +429,9 @@ fn at_end(a: usize, b: usize) -> Frame
 }
 
 // The first n bytes of a text, or how the run ends where they were not written.
-pub fn put_first<W: Write>(out: &mut W, text: &[u8], n: usize) -> Result<(), Ending> {
+pub fn put_first<W: Write>(out: &mut W, text: &[u8], n: usize) -> Result<(), Ending>
+    ensures { OnOk result (Appends (W.contents out.old) (W.contents out.new) (take n text.now)) }
+{
     if text.len() < n {
         return Err(Ending::Unwritten);
     }
@@ -442,13 +446,17 @@ pub fn put_answer<W: Write>(
     rest: &[u8],
     text: &[u8],
     n: usize,
-) -> Result<(), Ending> {
+) -> Result<(), Ending>
+    ensures { OnOk result (Appends (W.contents out.old) (W.contents out.new) ((word.now ++ (decimal n ++ rest.now)) ++ take n text.now)) }
+{
     put_number(out, word, n as u64, rest)?;
     put_first(out, text, n)
 }
 
 // A word and a number, and what follows it.
-pub fn put_number<W: Write>(out: &mut W, word: &[u8], n: u64, after: &[u8]) -> Result<(), Ending> {
+pub fn put_number<W: Write>(out: &mut W, word: &[u8], n: u64, after: &[u8]) -> Result<(), Ending>
+    ensures { OnOk result (Appends (W.contents out.old) (W.contents out.new) (word.now ++ (decimal n ++ after.now))) }
+{
     out.write_all(word)?;
     write!(out, "{n}")?;
     out.write_all(after)?;
@@ -456,7 +464,9 @@ pub fn put_number<W: Write>(out: &mut W, word: &[u8], n: u64, after: &[u8]) -> R
 }
 
 // A line of a word and a number.
-pub fn put_line<W: Write>(out: &mut W, word: &[u8], n: u64) -> Result<(), Ending> {
+pub fn put_line<W: Write>(out: &mut W, word: &[u8], n: u64) -> Result<(), Ending>
+    ensures { OnOk result (Appends (W.contents out.old) (W.contents out.new) (word.now ++ (decimal n ++ 10 ∷ []))) }
+{
     put_number(out, word, n, b"\n")
 }
 
