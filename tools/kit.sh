@@ -115,10 +115,14 @@ sources_of() { # NAME
     done
 }
 
+is_static() { grep -qE "^$1 +staticlib" crates.txt; }
+is_library() { [ -f "crates/$1/src/lib.rt" ] && ! is_static "$1"; }
+
 # Whether a crate is proved as it stands: what only a proof makes, or the mark of one, is newer than all that it is made from.
 is_proved() { # NAME
-    local made
-    for made in "crates/$1/out/rlib/$1.rlib" "crates/$1/out/$1" "target/proved/$1"; do
+    local made rlib=crates/$1/out/rlib/$1.rlib
+    if is_library "$1" && [ ! -d "$rlib" ]; then return 1; fi
+    for made in "$rlib" "crates/$1/out/$1" "target/proved/$1"; do
         # shellcheck disable=SC2046
         is_fresh "$made" $(sources_of "$1") && return
     done
@@ -156,12 +160,27 @@ proved() { # NAME..
     return "$status"
 }
 in_crate() { # NAME
-    cd "crates/$1" || return
+    local words
+    if is_static "$1"; then
+        mapfile -t words < <(words_of "$1")
+        TMPDIR=$room exec "$home/bin/rattle" check "${words[@]}"
+    fi
     # A library is built as well, for the crates above it.
-    case $1:$(sed -nE "s/^$1( +staticlib)?:.*/\1/p" ../../crates.txt) in
-    *:) if [ -f src/lib.rt ]; then TMPDIR=$room exec rt lib; fi ;;
-    esac
-    TMPDIR=$room exec rt check
+    cd "crates/$1" && TMPDIR=$room exec rt "$(if [ -f src/lib.rt ]; then echo lib; else echo check; fi)"
+}
+
+# How a static library crate is handed to the prover, over the libraries below it as they are built: a word a line. rt would build those that
+# `rt ci` built again, from nothing.
+words_of() { # NAME
+    local d
+    printf '%s\n' --crate-name "$1" "crates/$1/src/lib.rt" --crate-type staticlib --jobs 2 --extern "std=$home/rlibs/std.rlib" -L "dependency=$home/rlibs" \
+        --antt-project "$home/rattle/logic/antt-project.json" --logic-built "$home/logic_built"
+    for d in $(named_by "$1"); do
+        if [ -d "crates/$d" ]; then printf '%s\n' --extern "$d=crates/$d/out/rlib/$d.rlib"; else printf '%s\n' --extern "$d=$home/rlibs/$d.rlib"; fi
+    done
+    for d in $(made_of "$1"); do
+        if is_library "$d"; then printf '%s\n' -L "dependency=crates/$d/out/rlib"; fi
+    done
 }
 
 # A toolchain in the workplace whose clang compiles a module as it is wanted here: some functions always in their callers, and for any processor of
