@@ -1,3 +1,2 @@
--- What belongs to no one function: the reader's type in a walk, and what its functions promise.
-pub mod Held
+-- What belongs to no one function: what the functions over the reader promise.
 pub mod Promises

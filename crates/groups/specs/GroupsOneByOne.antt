@@ -1,9 +1,8 @@
 -- The groups gone through one by one, in their turns: where a run stands, and what a group makes of it.
-use Rattle.std.specs.Prelude.{true, List, [], ◌∷◌, map, ◌≡◌, refl, ℕ, ◌<◌, replicate}
-use Rattle.std.proofs.Common.{sym, ◌∙◌}
+use Rattle.std.specs.Prelude.{true, List, ◌∷◌, map, ◌≡◌, refl, ℕ, ◌<◌, replicate}
+use Rattle.std.proofs.Common.{◌∙◌}
 use Rattle.std.proofs.Math.Path.{ap}
-use Rattle.balance.specs.HourBalances.{Grouped}
-use Rattle.laws.specs.Keys.{among, first_once, Turns, turns_rest, turns_first}
+use Rattle.laws.specs.Keys.{among, Turns, turns_rest, turns_first}
 use Rattle.rules.specs.Group.{opened, group_lines, remainder}
 use Rattle.rules.specs.Hour.{keys, key_at, member, scheduled, Progress, shared, took_all, rest, group, turns, groups, opening}
 use Rattle.rules.specs.Refusals.{Outcome, accepted, refused, and_then}

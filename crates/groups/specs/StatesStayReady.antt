@@ -1,5 +1,5 @@
 -- Before every group of a valid hour the states are ready for it: an engine may move each source, and the group's D lines fit.
-use Rattle.std.specs.Prelude.{Bool, true, false, List, ◌∷◌, map, ◌≡◌, refl, ℕ, ◌-◌, ◌≤◌, leb, length}
+use Rattle.std.specs.Prelude.{Bool, true, false, List, ◌∷◌, map, ◌≡◌, refl, ℕ, ◌-◌, leb, length}
 use Rattle.std.proofs.Common.{◌∙◌, arith}
 use Rattle.std.proofs.lemmas.List.{length-map}
 use Rattle.std.proofs.Math.ListN.{get_or-map}

@@ -1,8 +1,8 @@
 -- Laws of loops that fill a list from its start.
-use Rattle.std.specs.Prelude.{◌≡◌, List, length, get_or, set, replicate}
+use Rattle.std.specs.Prelude.{◌≡◌, List, length, get_or, replicate}
 use Rattle.std.proofs.Math.Path.{refl}
 use Rattle.std.proofs.Common.{sym, ◌∙◌, get_or-set_same, ext_get_or}
-use Prim.Native.Nat.{ℕ, zero, suc, ◌+◌, ◌<◌, ◌≤◌}
+use Prim.Native.Nat.{ℕ, zero, suc, ◌<◌, ◌≤◌}
 use Rattle.std.proofs.Math.Decide.{dec_lt}
 use native.Mathlib.Omega.{arith}
 use Rattle.std.proofs.Math.ListN.{length-set}

@@ -1,19 +1,5 @@
-use mathlib.Core.Path.{◌≡◌, sym, ap, ◌∙◌}
-use mathlib.Core.Bool.{true}
 use Prim.Native.Nat.{◌-◌, ◌≤◌, min}
-use native.Mathlib.Omega.{arith}
-use lib.ListN.{length}
-use borrow.Author.Tests.{not-true, not-false}
-use borrow.Author.Rules.{rules}
-use Rattle.rules.specs.Answers.{verdict_of}
-use Rattle.rules.specs.Reading.{finished}
-use Rattle.line_rules.specs.Tried.{counts_of, Few}
-use Rattle.line_rules.specs.Totalled.{finished_by_lem}
-use Rattle.record.specs.Loops.{all_to_end, length_mapped}
-use Rattle.record.specs.Own.{few_entries, accepts}
-use Rattle.record.specs.OwnTells.{few_from}
-use Rattle.record.specs.Steps.{places_all, SourcesTo, sources_none, source_fails, sources_on, DeliveriesTo, deliveries_none, delivery_fails, deliveries_on, DirectsTo, directs_none, direct_fails, directs_on}
-use Rattle.record.specs.OwnIsValid.{passes_valid, fails_valid}
+use Rattle.record.specs.Steps.{SourcesTo, DeliveriesTo, DirectsTo}
 use Rattle.record.proofs.valid.Given as goal
 
 abbrev pub invariant-loop-i : goal.invariant-loop-i
@@ -33,4 +19,3 @@ invariant-loop-k l = (l.k ≤ 32) × DirectsTo l.h l.based l.percents l.k (min l
 
 abbrev pub decreases-loop-k : goal.decreases-loop-k
 decreases-loop-k l = 32 - l.k
-

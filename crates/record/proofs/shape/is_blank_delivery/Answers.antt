@@ -1,5 +1,4 @@
 use borrow.Author.Tests.{ne_eqb, eq-eqb}
-use borrow.Author.Rules.{rules}
 use Rattle.record.specs.Shape as shape
 use Rattle.record.proofs.shape.is_blank_delivery.Goals as goal
 

@@ -1,6 +1,4 @@
 use mathlib.Core.Path.{sym, ◌∙◌}
-use borrow.Author.Tests.{not-true, not-false}
-use borrow.Author.Rules.{rules}
 use Rattle.record.specs.Shape as shape
 use Rattle.record.proofs.shape.is_blank_source.Goals as goal
 

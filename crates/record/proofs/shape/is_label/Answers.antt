@@ -1,5 +1,4 @@
 use borrow.Author.Tests.{le-leb, lt-leb}
-use borrow.Author.Rules.{rules}
 use Rattle.record.specs.Shape as shape
 use Rattle.record.proofs.shape.is_label.Goals as goal
 
