@@ -2,7 +2,7 @@
 // The definitions cited are rules' (crates/rules/specs); an answer's enum is the case for each outcome.
 #![tactic(auto)]
 
-mod linked;
+pub mod linked;
 
 ghost use Rattle.std.specs.Prelude.{◌≡◌, ◌+◌, length};
 ghost use Rattle.rules.specs.Answers.{verdict_of, written_of, curve_answer, cost_answer};

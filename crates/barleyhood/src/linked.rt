@@ -1,5 +1,5 @@
-// The calls for C: on numbers and slices, each a pointer and a length. include/barleyhood.h says what a caller needs to know.
-// An answer is a count or refusals' codeOf of a refusal, which is 2^32 or more, or a label's place. The contracts cite rules' definitions, and Linked for the answer.
+// The calls for C: on numbers and slices, each a pointer and a length. include/barleyhood.h says what a caller needs to know; barleyhood_c exports them.
+// An answer is a count or refusals' code_of of a refusal, which is 2^32 or more, or a label's place. The contracts cite rules' definitions, and Linked for the answer.
 ghost use Rattle.std.specs.Prelude.{◌≡◌, length};
 ghost use Rattle.rules.specs.Calls.{reporting, deck_spreadsheet, spreadsheet_lines, leaves};
 ghost use Rattle.rules.specs.Places.{source_place, delivery_place, labelling};
@@ -9,8 +9,7 @@ ghost use Rattle.barleyhood.specs.Linked.{check_code, sources_code, deliveries_c
 use rules::{Verdict, Written};
 
 // 0 for a deck that is accepted.
-#[unsafe(no_mangle)]
-pub extern "C" fn barleyhood_check(s: &[u8]) -> u64
+pub fn barleyhood_check(s: &[u8]) -> u64
     ensures { result ≡ check_code (reading s.now) }
 {
     match deck::check_deck(s) {
@@ -20,8 +19,7 @@ pub extern "C" fn barleyhood_check(s: &[u8]) -> u64
 }
 
 // How many sources the deck has.
-#[unsafe(no_mangle)]
-pub extern "C" fn barleyhood_sources(s: &[u8]) -> u64
+pub fn barleyhood_sources(s: &[u8]) -> u64
     ensures { result ≡ sources_code (reading s.now) }
 {
     let x = deck::read(s);
@@ -34,8 +32,7 @@ pub extern "C" fn barleyhood_sources(s: &[u8]) -> u64
 }
 
 // How many deliveries it has.
-#[unsafe(no_mangle)]
-pub extern "C" fn barleyhood_deliveries(s: &[u8]) -> u64
+pub fn barleyhood_deliveries(s: &[u8]) -> u64
     ensures { result ≡ deliveries_code (reading s.now) }
 {
     let x = deck::read(s);
@@ -58,8 +55,7 @@ fn written_code(x: Written) -> u64
 }
 
 // The cells of the deck's hour by a search for the price, and how many they are.
-#[unsafe(no_mangle)]
-pub extern "C" fn barleyhood_price(s: &[u8], out: &mut [i64]) -> u64
+pub fn barleyhood_price(s: &[u8], out: &mut [i64]) -> u64
     ensures code { result ≡ written_code (cells_of_deck s.now (length out.old)) }
     ensures cells { out.new ≡ leaves (cells_of_deck s.now (length out.old)) out.old }
 {
@@ -73,8 +69,7 @@ pub extern "C" fn barleyhood_price(s: &[u8], out: &mut [i64]) -> u64
 }
 
 // The same, by the plain rule.
-#[unsafe(no_mangle)]
-pub extern "C" fn barleyhood_plain(s: &[u8], out: &mut [i64]) -> u64
+pub fn barleyhood_plain(s: &[u8], out: &mut [i64]) -> u64
     ensures code { result ≡ written_code (cells_of_deck s.now (length out.old)) }
     ensures cells { out.new ≡ leaves (cells_of_deck s.now (length out.old)) out.old }
 {
@@ -88,8 +83,7 @@ pub extern "C" fn barleyhood_plain(s: &[u8], out: &mut [i64]) -> u64
 }
 
 // The deck's report as text, and how many bytes it has.
-#[unsafe(no_mangle)]
-pub extern "C" fn barleyhood_report(s: &[u8], out: &mut [u8]) -> u64
+pub fn barleyhood_report(s: &[u8], out: &mut [u8]) -> u64
     ensures code { result ≡ written_code (reporting s.now (length out.old)) }
     ensures bytes { out.new ≡ leaves (reporting s.now (length out.old)) out.old }
 {
@@ -97,24 +91,21 @@ pub extern "C" fn barleyhood_report(s: &[u8], out: &mut [u8]) -> u64
 }
 
 // Where the own bytes of source i's label stand in the deck.
-#[unsafe(no_mangle)]
-pub extern "C" fn barleyhood_source_label(s: &[u8], i: usize) -> u64
+pub fn barleyhood_source_label(s: &[u8], i: usize) -> u64
     ensures { result ≡ source_place s.now i }
 {
     label_places::source_place(s, i)
 }
 
 // The same of delivery j.
-#[unsafe(no_mangle)]
-pub extern "C" fn barleyhood_delivery_label(s: &[u8], j: usize) -> u64
+pub fn barleyhood_delivery_label(s: &[u8], j: usize) -> u64
     ensures { result ≡ delivery_place s.now j }
 {
     label_places::delivery_place(s, j)
 }
 
 // The places of all labels, each source's and then each delivery's, and how many they are.
-#[unsafe(no_mangle)]
-pub extern "C" fn barleyhood_labels(s: &[u8], out: &mut [u64]) -> u64
+pub fn barleyhood_labels(s: &[u8], out: &mut [u64]) -> u64
     ensures code { result ≡ written_code (labelling s.now (length out.old)) }
     ensures places { out.new ≡ leaves (labelling s.now (length out.old)) out.old }
 {
@@ -122,8 +113,7 @@ pub extern "C" fn barleyhood_labels(s: &[u8], out: &mut [u64]) -> u64
 }
 
 // The allocations of the deck's hour as a spreadsheet file, and how many bytes it has.
-#[unsafe(no_mangle)]
-pub extern "C" fn barleyhood_spreadsheet(s: &[u8], out: &mut [u8]) -> u64
+pub fn barleyhood_spreadsheet(s: &[u8], out: &mut [u8]) -> u64
     ensures code { result ≡ written_code (deck_spreadsheet s.now (length out.old)) }
     ensures bytes { out.new ≡ leaves (deck_spreadsheet s.now (length out.old)) out.old }
 {
@@ -131,8 +121,7 @@ pub extern "C" fn barleyhood_spreadsheet(s: &[u8], out: &mut [u8]) -> u64
 }
 
 // The lines of a file as the report prints them, and how many bytes they have.
-#[unsafe(no_mangle)]
-pub extern "C" fn barleyhood_spreadsheet_lines(file: &[u8], out: &mut [u8]) -> u64
+pub fn barleyhood_spreadsheet_lines(file: &[u8], out: &mut [u8]) -> u64
     ensures code { result ≡ written_code (spreadsheet_lines file.now (length out.old)) }
     ensures bytes { out.new ≡ leaves (spreadsheet_lines file.now (length out.old)) out.old }
 {

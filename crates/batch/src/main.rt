@@ -6,72 +6,92 @@
 
 use frames::{Coming, Ending};
 use rules::Written;
+use std::io::{Read, Write};
+use std::process::ExitCode;
+use std::rt::Files;
 use words::WORDS;
 
 // Words about a refused deck, for a person, after a line with the frame's number and the rest of its head. Where standard error is closed, nobody
 // reads them.
-fn put_words(k: u64, rest: &[u8], text: &[u8]) {
-    io::write_all(2, b"frame ");
-    io::print_decimal(2, k);
-    io::write_all(2, rest);
-    io::write_all(2, text);
+fn put_words<E: Write>(errors: &mut E, k: u64, rest: &[u8], text: &[u8]) {
+    let _ = frames::put_number(errors, b"frame ", k, rest);
+    let _ = errors.write_all(text);
 }
 
-fn explain(deck: &[u8], k: u64, rest: &[u8]) {
-    let mut out = [0u8; WORDS];
-    let n = words::explain(deck, &mut out);
-    put_words(k, rest, &out[0..n]);
+fn explain<E: Write>(errors: &mut E, deck: &[u8], k: u64, rest: &[u8]) {
+    let mut text = [0u8; WORDS];
+    let n = words::explain(deck, &mut text);
+    put_words(errors, k, rest, &text[0..n]);
 }
 
 // Of a frame whose bytes were passed over.
-fn explain_over(k: u64, rest: &[u8]) {
-    let mut out = [0u8; WORDS];
-    let n = words::explain_number(1, &mut out);
-    put_words(k, rest, &out[0..n]);
+fn explain_over<E: Write>(errors: &mut E, k: u64, rest: &[u8]) {
+    let mut text = [0u8; WORDS];
+    let n = words::explain_number(1, &mut text);
+    put_words(errors, k, rest, &text[0..n]);
 }
 
 // No report is longer than what is lent for it here.
-fn put_report(deck: &[u8], k: u64, rest: &[u8]) -> Ending {
-    let mut out = [0u8; 131072];
-    let Written::Count(n) = print_report::report(deck, &mut out) else {
+fn put_report<W: Write, E: Write>(
+    out: &mut W,
+    errors: &mut E,
+    deck: &[u8],
+    k: u64,
+    rest: &[u8],
+) -> Ending {
+    let mut text = [0u8; 131072];
+    let Written::Count(n) = print_report::report(deck, &mut text) else {
         return Ending::Unwritten;
     };
-    if !frames::put_answer(b"report ", rest, &out, n) {
-        return Ending::Unwritten;
+    if let Err(ending) = frames::put_answer(out, b"report ", rest, &text, n) {
+        return ending;
     }
-    if frames::tells_refusal(&out) {
-        explain(deck, k, rest);
+    if frames::tells_refusal(&text) {
+        explain(errors, deck, k, rest);
         return Ending::Refused;
     }
     Ending::Written
 }
 
 // Nor is any file longer than what is lent for it. A refused deck has none: its report tells.
-fn put_spreadsheet(deck: &[u8], k: u64, rest: &[u8]) -> Ending {
-    let mut out = [0u8; 147456];
-    let Written::Count(n) = write_spreadsheet::deck_spreadsheet(deck, &mut out) else {
-        return put_report(deck, k, rest);
+fn put_spreadsheet<W: Write, E: Write>(
+    out: &mut W,
+    errors: &mut E,
+    deck: &[u8],
+    k: u64,
+    rest: &[u8],
+) -> Ending {
+    let mut text = [0u8; 147456];
+    let Written::Count(n) = write_spreadsheet::deck_spreadsheet(deck, &mut text) else {
+        return put_report(out, errors, deck, k, rest);
     };
-    if !frames::put_answer(b"spreadsheet ", rest, &out, n) {
-        return Ending::Unwritten;
+    if let Err(ending) = frames::put_answer(out, b"spreadsheet ", rest, &text, n) {
+        return ending;
     }
     Ending::Written
 }
 
 // The answer to a frame whose bytes were passed over: 1.
-fn put_over(k: u64, rest: &[u8]) -> Ending {
-    if !frames::put_answer(b"report ", rest, b"refused 1 0\n", 12) {
-        return Ending::Unwritten;
+fn put_over<W: Write, E: Write>(out: &mut W, errors: &mut E, k: u64, rest: &[u8]) -> Ending {
+    if let Err(ending) = frames::put_answer(out, b"report ", rest, b"refused 1 0\n", 12) {
+        return ending;
     }
-    explain_over(k, rest);
+    explain_over(errors, k, rest);
     Ending::Refused
 }
 
-fn put_frame(coming: Coming, deck: &[u8], k: u64, rest: &[u8]) -> Ending {
+fn put_frame<W: Write, E: Write>(
+    out: &mut W,
+    errors: &mut E,
+    coming: Coming,
+    deck: &[u8],
+    k: u64,
+    rest: &[u8],
+) -> Ending {
     match coming {
-        Coming::Over => put_over(k, rest),
-        Coming::Spreadsheet => put_spreadsheet(deck, k, rest),
-        _ => put_report(deck, k, rest),
+        Coming::Over => put_over(out, errors, k, rest),
+        Coming::Spreadsheet => put_spreadsheet(out, errors, deck, k, rest),
+        _ => put_report(out, errors, deck, k, rest),
     }
 }
 
@@ -84,14 +104,14 @@ fn is_last(coming: Coming) -> bool {
 }
 
 // How a run ends whose frame k is none.
-fn last(coming: Coming, k: u64, so_far: Ending) -> Ending {
+fn last<W: Write>(out: &mut W, coming: Coming, k: u64, so_far: Ending) -> Ending {
     match coming {
         Coming::Unread => Ending::Unread,
         Coming::Broken => {
-            if frames::put_line(1, b"frame ", k) {
-                Ending::Refused
+            if let Err(ending) = frames::put_line(out, b"frame ", k) {
+                ending
             } else {
-                Ending::Unwritten
+                Ending::Refused
             }
         }
         _ => so_far,
@@ -100,7 +120,7 @@ fn last(coming: Coming, k: u64, so_far: Ending) -> Ending {
 
 fn is_failure(ending: Ending) -> bool {
     match ending {
-        Ending::Unread | Ending::Unwritten => true,
+        Ending::Unread | Ending::Unwritten | Ending::Unheard => true,
         _ => false,
     }
 }
@@ -113,42 +133,55 @@ fn worse(so_far: Ending, ending: Ending) -> Ending {
 }
 
 // How many decks are done, for a person who watches.
-fn show(done: u64, after: &[u8]) {
-    io::write_all(4, b"barleyhood: decks done: ");
-    io::print_decimal(4, done);
-    io::write_all(4, after);
-}
-
-// The count every so many decks, in a line that the next one overwrites.
-fn show_some(done: u64) {
-    if done % 100 == 0 {
-        show(done, b"\r");
+fn show<R: Files>(rt: &R, done: u64, after: &[u8]) {
+    if let Some(mut watcher) = frames::lent(rt, "/proc/self/fd/4") {
+        let _ = frames::put_number(&mut watcher, b"barleyhood: decks done: ", done, after);
     }
 }
 
-fn run(window: &mut [u8]) -> Ending {
+// The count every so many decks, in a line that the next one overwrites.
+fn show_some<R: Files>(rt: &R, done: u64) {
+    if done % 100 == 0 {
+        show(rt, done, b"\r");
+    }
+}
+
+fn run<R: Files, I: Read, W: Write, E: Write>(
+    rt: &R,
+    input: &mut I,
+    out: &mut W,
+    errors: &mut E,
+    window: &mut [u8],
+) -> Ending {
     let mut from: usize = 0;
     let mut have: usize = 0;
     let mut so_far = Ending::Written;
     let mut done: u64 = 0;
     while done < 1000000000000 {
         let k = done + 1;
-        let f = frames::next(window, from, have);
+        let f = frames::next(input, window, from, have);
         let coming = f.coming;
         if is_last(coming) {
-            show(done, b"\n");
-            return last(coming, k, so_far);
+            show(rt, done, b"\n");
+            return last(out, coming, k, so_far);
         }
         let first = f.first;
         let upto = f.upto;
         let rest = f.rest;
         let end = f.end;
-        let ending = put_frame(coming, &window[first..upto], k, &window[rest..end]);
+        let ending = put_frame(
+            out,
+            errors,
+            coming,
+            &window[first..upto],
+            k,
+            &window[rest..end],
+        );
         if is_failure(ending) {
             return ending;
         }
         so_far = worse(so_far, ending);
-        show_some(k);
+        show_some(rt, k);
         from = upto;
         have = f.have;
         done = k;
@@ -156,7 +189,12 @@ fn run(window: &mut [u8]) -> Ending {
     so_far
 }
 
-fn main() {
-    let mut window = io::large_buffer();
-    frames::tell(run(&mut window));
+fn main(rt: HostRuntime) -> ExitCode {
+    let mut window = frames::large_buffer();
+    let mut input = rt.stdin();
+    let mut out = rt.stdout();
+    let mut errors = rt.stderr();
+    let ending = run(&rt, &mut input, &mut out, &mut errors, &mut window);
+    frames::tell(&rt, ending);
+    frames::status(ending)
 }

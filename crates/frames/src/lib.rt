@@ -1,11 +1,20 @@
-// What programs read and write: frames on standard input, each a line `deck N` or `deck N NAME`, or `spreadsheet` for `deck`, and then N bytes; answers
-// on standard output, each with whether it could be written; and on descriptor 3 how the run ended, for the program that started this one.
+// What programs read and write: frames on an input, each a line `deck N` or `deck N NAME`, or `spreadsheet` for `deck`, and then N bytes; answers on an
+// output, each with whether it could be written; and on descriptor 3 how the run ended, for the program that started this one.
 // The input stands in a lent window, of which the bytes from `from` to `have` are not used yet; nothing else of it is kept.
 #![tactic(auto)]
 
-ghost use Rattle.std.specs.Prelude.{◌≡◌, ◌≤◌, ◌<◌, length};
+ghost use Rattle.std.specs.Prelude.{◌≡◌, ◌≤◌, ◌<◌, ◌++◌, ◌∷◌, [], length, take, OnOk};
+ghost use Rattle.std.specs.Fmt.{decimal};
+ghost use Rattle.std.specs.Io.KnownBytes.{Appends};
 
-// How a run ended: all written; a deck or file refused or a frame broken; a read that failed; a write that failed; an input longer than the program takes.
+use std::fs;
+use std::fs::OpenOptions;
+use std::io::{Error, ErrorKind, Read, Write};
+use std::process::ExitCode;
+use std::rt::Files;
+
+// How a run ended: all written; a deck or file refused or a frame broken; a read that failed; a write that failed; an input longer than the program
+// takes; answers into a pipe that nobody reads any more.
 #[derive(Clone, Copy)]
 pub enum Ending {
     Written,
@@ -13,17 +22,69 @@ pub enum Ending {
     Unread,
     Unwritten,
     TooLong,
+    Unheard,
 }
 
-// The ending told on descriptor 3. Where that is closed, nobody asked.
-pub fn tell(ending: Ending) {
+// How a run ends by a write that failed.
+impl From<Error> for Ending {
+    fn from(e: Error) -> Ending {
+        match e.kind() {
+            ErrorKind::BrokenPipe => Ending::Unheard,
+            _ => Ending::Unwritten,
+        }
+    }
+}
+
+// An ending as it is told.
+fn told(ending: Ending) -> &'static str {
     match ending {
-        Ending::Written => io::write_all(3, b"0\n"),
-        Ending::Refused => io::write_all(3, b"1\n"),
-        Ending::Unread => io::write_all(3, b"2 read\n"),
-        Ending::Unwritten => io::write_all(3, b"2 write\n"),
-        Ending::TooLong => io::write_all(3, b"2 long\n"),
+        Ending::Written => "0\n",
+        Ending::Refused => "1\n",
+        Ending::Unread => "2 read\n",
+        Ending::Unwritten => "2 write\n",
+        Ending::TooLong => "2 long\n",
+        Ending::Unheard => "",
+    }
+}
+
+// A descriptor that this program was started with, opened anew by its name among the process's own, to add to what is there. None where it is closed
+// or lent for reading alone, which its link's permissions tell.
+pub fn lent<R: Files>(rt: &R, name: &str) -> Option<R::File> {
+    let Ok(link) = fs::symlink_metadata(rt, name) else {
+        return None;
     };
+    if link.permissions().readonly() {
+        return None;
+    }
+    OpenOptions::new().append(true).open(rt, name).ok()
+}
+
+// The ending told on descriptor 3. Where that is closed, nobody asked; where nobody reads the answers, it is not told, as by a program that such a pipe
+// killed.
+pub fn tell<R: Files>(rt: &R, ending: Ending) {
+    let line = told(ending);
+    if line.len() == 0 {
+        return;
+    }
+    let Some(mut asker) = lent(rt, "/proc/self/fd/3") else {
+        return;
+    };
+    let _ = asker.write_all(line.as_bytes());
+}
+
+// The exit status: 0, but where nobody reads the answers that of a program that such a pipe killed, as shells have it.
+pub fn status(ending: Ending) -> ExitCode {
+    match ending {
+        Ending::Unheard => ExitCode::from(141),
+        _ => ExitCode::SUCCESS,
+    }
+}
+
+// Room for an input: more than a deck may have. Zeros, so many that the checker must not count them: a caller knows their number by the contract.
+pub fn large_buffer() -> [u8; 65536]
+    ensures { 65536 ≡ length result }
+{
+    [0; 65536]
 }
 
 // How many bytes the window has after a read, and whether the read failed.
@@ -33,32 +94,30 @@ pub struct Got {
     pub failed: bool,
 }
 
-// One read of standard input to after the first `have` bytes of the window: what is there, and no more at the input's end.
-fn more(window: &mut [u8], have: usize) -> Got
+// One read of the input to after the first `have` bytes of the window: what is there, and no more at the input's end.
+fn more<I: Read>(input: &mut I, window: &mut [u8], have: usize) -> Got
     requires { have ≤ length window.old }
     ensures { (have ≤ result.have) × (result.have ≤ length window.new) × (length window.new ≡ length window.old) }
 {
-    let got = libc::read(0, &mut window[have..]);
-    if got < 0 {
-        return Got {
+    match input.read(&mut window[have..]) {
+        Ok(n) => Got {
+            have: have + n,
+            failed: false,
+        },
+        Err(_) => Got {
             have: have,
             failed: true,
-        };
-    }
-    let n = io::count(got, &window[have..]);
-    Got {
-        have: have + n,
-        failed: false,
+        },
     }
 }
 
-// The window filled from standard input, or as far as the input goes.
-pub fn fill(window: &mut [u8]) -> Got
+// The window filled from the input, or as far as the input goes.
+pub fn fill<I: Read>(input: &mut I, window: &mut [u8]) -> Got
     ensures { (result.have ≤ length window.new) × (length window.new ≡ length window.old) }
 {
     let mut have: usize = 0;
     while have < window.len() {
-        let g = more(window, have);
+        let g = more(input, window, have);
         if g.failed {
             return g;
         }
@@ -279,7 +338,14 @@ fn none(coming: Coming) -> Frame
 }
 
 // A frame of more bytes than a deck may have, whose head stands at the window's front up to `start`: it is read to its end in the rest of the window.
-fn pass_over(window: &mut [u8], have: usize, size: u64, rest: usize, start: usize) -> Frame
+fn pass_over<I: Read>(
+    input: &mut I,
+    window: &mut [u8],
+    have: usize,
+    size: u64,
+    rest: usize,
+    start: usize,
+) -> Frame
     requires { (rest ≤ start) × (start ≤ have) × (have ≤ length window.old) }
     ensures { (result.rest ≤ result.end) × (result.end ≤ result.have) × (result.first ≤ result.upto) × (result.upto ≤ result.have) × (result.have ≤ length window.new) × (length window.new ≡ length window.old) }
 {
@@ -287,7 +353,7 @@ fn pass_over(window: &mut [u8], have: usize, size: u64, rest: usize, start: usiz
     let mut upto = have;
     while ((upto - start) as u64) < left {
         left -= (upto - start) as u64;
-        let g = more(window, start);
+        let g = more(input, window, start);
         if g.failed {
             return none(Coming::Unread);
         }
@@ -308,7 +374,7 @@ fn pass_over(window: &mut [u8], have: usize, size: u64, rest: usize, start: usiz
 }
 
 // The next frame, read as far as it must be and no further.
-pub fn next(window: &mut [u8], from: usize, have: usize) -> Frame
+pub fn next<I: Read>(input: &mut I, window: &mut [u8], from: usize, have: usize) -> Frame
     requires { (from ≤ have) × (have ≤ length window.old) }
     ensures { (result.rest ≤ result.end) × (result.end ≤ result.have) × (result.first ≤ result.upto) × (result.upto ≤ result.have) × (result.have ≤ length window.new) × (length window.new ≡ length window.old) }
 {
@@ -323,7 +389,7 @@ pub fn next(window: &mut [u8], from: usize, have: usize) -> Frame
             let first = a + h.start;
             if MOST < h.size {
                 to_front(window, a, b);
-                return pass_over(window, b - a, h.size, h.rest, h.start);
+                return pass_over(input, window, b - a, h.size, h.rest, h.start);
             }
             if h.size <= (b - first) as u64 {
                 let coming = asked(&window[a..first]);
@@ -340,7 +406,7 @@ pub fn next(window: &mut [u8], from: usize, have: usize) -> Frame
             }
         }
         to_front(window, a, b);
-        let g = more(window, b - a);
+        let g = more(input, window, b - a);
         if g.failed {
             return none(Coming::Unread);
         }
@@ -362,37 +428,46 @@ fn at_end(a: usize, b: usize) -> Frame
     none(Coming::Broken)
 }
 
-// The first n bytes of a text, and whether they were written.
-pub fn put_first(text: &[u8], n: usize) -> bool {
+// The first n bytes of a text, or how the run ends where they were not written.
+pub fn put_first<W: Write>(out: &mut W, text: &[u8], n: usize) -> Result<(), Ending>
+    ensures { OnOk result (Appends (W.contents out.old) (W.contents out.new) (take n text.now)) }
+{
     if text.len() < n {
-        return false;
+        return Err(Ending::Unwritten);
     }
-    io::write_all(1, &text[0..n])
+    out.write_all(&text[0..n])?;
+    Ok(())
 }
 
 // A frame's answer: the first n bytes of a text, after a head of a word and the rest of the frame's own.
-pub fn put_answer(word: &[u8], rest: &[u8], text: &[u8], n: usize) -> bool {
-    if !io::write_all(1, word) {
-        return false;
-    }
-    if !io::print_decimal(1, n as u64) {
-        return false;
-    }
-    if !io::write_all(1, rest) {
-        return false;
-    }
-    put_first(text, n)
+pub fn put_answer<W: Write>(
+    out: &mut W,
+    word: &[u8],
+    rest: &[u8],
+    text: &[u8],
+    n: usize,
+) -> Result<(), Ending>
+    ensures { OnOk result (Appends (W.contents out.old) (W.contents out.new) ((word.now ++ (decimal n ++ rest.now)) ++ take n text.now)) }
+{
+    put_number(out, word, n as u64, rest)?;
+    put_first(out, text, n)
+}
+
+// A word and a number, and what follows it.
+pub fn put_number<W: Write>(out: &mut W, word: &[u8], n: u64, after: &[u8]) -> Result<(), Ending>
+    ensures { OnOk result (Appends (W.contents out.old) (W.contents out.new) (word.now ++ (decimal n ++ after.now))) }
+{
+    out.write_all(word)?;
+    write!(out, "{n}")?;
+    out.write_all(after)?;
+    Ok(())
 }
 
 // A line of a word and a number.
-pub fn put_line(descriptor: i32, word: &[u8], n: u64) -> bool {
-    if !io::write_all(descriptor, word) {
-        return false;
-    }
-    if !io::print_decimal(descriptor, n) {
-        return false;
-    }
-    io::write_all(descriptor, b"\n")
+pub fn put_line<W: Write>(out: &mut W, word: &[u8], n: u64) -> Result<(), Ending>
+    ensures { OnOk result (Appends (W.contents out.old) (W.contents out.new) (word.now ++ (decimal n ++ 10 ∷ []))) }
+{
+    put_number(out, word, n, b"\n")
 }
 
 // Whether a report is that of a refused deck: the one line `refused`, where any other starts with `hour`.
