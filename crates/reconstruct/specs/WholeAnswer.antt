@@ -1,12 +1,12 @@
 -- What the cells of a valid hour come to: 14, then what the groups come to; and so what is answered and left in the lent cells. Before them, 15.
 use Rattle.std.specs.Prelude.{true, false, List, [], ◌++◌, ◌≡◌, refl, ℕ, ◌+◌, ◌*◌, ◌≤◌, ◌<◌, ℤ, pos, length, take, drop}
-use Rattle.std.proofs.Common.{sym, ap, ◌∙◌, mul-le-mul, arith, lt-ltb, le-ltb, length-drop, take-append-drop, get_or-drop, ext_get_or}
-use Rattle.balance.specs.CellsAreFew.{cells_few, count_few}
+use Rattle.std.proofs.Common.{sym, ap, ◌∙◌, arith, lt-ltb, le-ltb, length-drop, take-append-drop, get_or-drop, ext_get_or}
+use Rattle.balance.specs.CellsAreFew.{cells_few}
 use Rattle.balance.specs.AnswerCells.{cell_at, cells_length}
 use Rattle.group.specs.declared.Settled.{Settled}
-use Rattle.laws.specs.Keys.{key_same, key_itself, among}
+use Rattle.laws.specs.Keys.{key_same, key_itself}
 use Rattle.members.specs.Leads.{AllGiven, AllShared, all_given, all_shared}
-use Rattle.members.specs.Live.{row_width, item_read}
+use Rattle.members.specs.Live.{item_read}
 use Rattle.members.specs.Members.{MwhsOf}
 use Rattle.members.specs.MwhsListed.{Mwhs}
 use Rattle.members.specs.Shared.{DeliveriesSmall}
@@ -17,7 +17,7 @@ use Rattle.reconstruct.specs.CellsWritten.{Held, OpenFits, OpenPut, cells_writte
 use Rattle.roundtrip.specs.GivenHour.{valid_given}
 use Rattle.rules.specs.Answers.{written_of}
 use Rattle.rules.specs.Calls.{cells_for, reconstruction, leaves}
-use Rattle.rules.specs.Hour.{key_at, keys, share, Progress, turns, groups, reconstructed, opening, cells_of, pair_width, open_width, cell_count, answer}
+use Rattle.rules.specs.Hour.{key_at, keys, share, Progress, turns, groups, reconstructed, opening, cells_of, pair_width, cell_count, answer}
 use Rattle.rules.specs.Group.{Amount}
 use Rattle.rules.specs.Refusals.{Outcome, accepted, refused, and_then}
 use Rattle.rules.specs.Writing.{valid}
