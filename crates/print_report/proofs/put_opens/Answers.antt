@@ -1,0 +1,29 @@
+use borrow.Author.Rules.{rules}
+use mathlib.Core.Path.{refl}
+use mathlib.Core.List.{[]}
+use Prim.Native.Nat.{◌+◌, ◌-◌, ◌*◌, ◌≤◌}
+use native.Mathlib.Omega.{arith}
+use lib.ListN.{length}
+use Rattle.rules.specs.Words.{text}
+use Rattle.rules.specs.Hour.{open_width}
+use Rattle.write_fields.specs.Inked.{Inked, up_to, inked_as, inked_none, inked_more, inked_all, room_as, room_next}
+use Rattle.hour_lines.specs.HourCells.{part_small}
+use Rattle.print_report.specs.Rows.{open_at, front_open_at, line_same}
+use Rattle.print_report.proofs.put_opens.Goals as goal
+
+pub loop-i-init : goal.loop-i-init
+loop-i-init c =
+    (search rules, search rules, c.requires.2.there, inked_none _ _ _)
+
+pub put_open-p-requires : goal.put_open-p-requires
+put_open-p-requires c =
+    let a = c.args in
+    let lines = open_at a.deck.now a.sources a.cells.now a.base in
+    room_as (line_same (text "internal \"") c.part_at-source.ensures.bytes c.open_amounts_at-amounts.ensures [])
+    (room_next lines (front_open_at a.deck.now a.sources a.cells.now a.base) c.loop-i.i a.n (omega arith) c.loop-i.invariant.3 c.requires.3)
+
+pub loop-i-preserved : goal.loop-i-preserved
+loop-i-preserved c =
+    let a = c.args in
+    let written = line_same (text "internal \"") c.part_at-source.ensures.bytes c.open_amounts_at-amounts.ensures in
+    (search rules, search rules, search rules, inked_more _ _ c.loop-i.invariant.3 (inked_as written c.put_open-p.ensures))

@@ -1,0 +1,18 @@
+use borrow.Author.Rules.{rules}
+use mathlib.Core.Path.{refl}
+use mathlib.Core.List.{[]}
+use Prim.Native.Nat.{◌+◌, ◌-◌, ◌*◌, ◌≤◌}
+use native.Mathlib.Omega.{arith}
+use lib.ListN.{length}
+use Rattle.rules.specs.Hour.{pair_width}
+use Rattle.write_fields.specs.Inked.{Inked, up_to, inked_as, inked_none, inked_more, inked_all, room_as, room_next}
+use Rattle.hour_lines.specs.HourCells.{part_small}
+use Rattle.print_report.specs.Rows.{pair_at, front_pair_at, line_same}
+use Rattle.print_report.proofs.put_row.Given as goal
+
+abbrev pub invariant-loop-i : goal.invariant-loop-i
+invariant-loop-i l = (l.n ≤ 32) × (l.i ≤ l.n) × (l.base + l.n * pair_width ≤ length l.cells) × Inked l.initial.buf l.at l.buf l.p (up_to (pair_at l.deck l.sources l.cells l.base l.head) l.i)
+
+abbrev pub decreases-loop-i : goal.decreases-loop-i
+decreases-loop-i l = l.n - l.i
+

@@ -1,0 +1,14 @@
+use borrow.Author.Rules.{rules}
+use mathlib.Core.Path.{◌≡◌, ap, ◌∙◌}
+use Prim.Native.Nat.{◌-◌, ◌≤◌}
+use native.Mathlib.Omega.{arith}
+use Rattle.rules.specs.Record.{delivery_at}
+use Rattle.write_spreadsheet.specs.Rows.{delivery_labels, label_none, label_more}
+use Rattle.write_spreadsheet.proofs.delivery_labels.Given as goal
+
+abbrev pub invariant-loop-j : goal.invariant-loop-j
+invariant-loop-j l = (l.m ≤ 32) × (l.j ≤ l.m) × (l.labels ≡ delivery_labels l.h l.j)
+
+abbrev pub decreases-loop-j : goal.decreases-loop-j
+decreases-loop-j l = l.m - l.j
+

@@ -1,0 +1,32 @@
+use borrow.Author.Rules.{rules}
+use mathlib.Core.Path.{◌≡◌, ap, sym, ◌∙◌}
+use mathlib.Core.List.{[]}
+use Prim.Native.Nat.{◌+◌, ◌-◌, ◌*◌, ◌≤◌}
+use native.Mathlib.Omega.{arith}
+use lib.ListN.{length}
+use Rattle.rules.specs.Hour.{open_width}
+use Rattle.write_fields.specs.Inked.{up_to, length_none, length_more, length_within}
+use Rattle.hour_lines.specs.HourCells.{part_small}
+use Rattle.write_spreadsheet.specs.Rows.{label_at, open_at, front_open_at, open_made}
+use Rattle.write_spreadsheet.proofs.opens_length.Goals as goal
+
+pub loop-i-init : goal.loop-i-init
+loop-i-init c = (search rules, search rules, c.requires.1.there, sym (length_none _))
+
+pub overflow_add-size : goal.overflow_add-size
+overflow_add-size c =
+    let a = c.args in
+    let i = c.loop-i.i in
+    let records = open_at a.sources a.cells.now a.base in
+    let fronts = front_open_at a.sources a.cells.now a.base in
+    let written = ap length (open_made (label_at a.sources i) c.open_amounts_at-amounts.ensures []) in
+    record { fits = omega (arith, written, length_within records fronts i a.n (omega arith), c.requires.2, c.internal_length-size.ensures.0, c.loop-i.invariant.3) }
+
+pub loop-i-preserved : goal.loop-i-preserved
+loop-i-preserved c =
+    let a = c.args in
+    let i = c.loop-i.i in
+    let records = open_at a.sources a.cells.now a.base in
+    let fronts = front_open_at a.sources a.cells.now a.base in
+    let written = ap length (open_made (label_at a.sources i) c.open_amounts_at-amounts.ensures []) in
+    (search rules, search rules, search rules, omega (arith, written, length_more records fronts i, c.internal_length-size.ensures.0, c.loop-i.invariant.3))

@@ -1,0 +1,32 @@
+use borrow.Author.Rules.{rules}
+use mathlib.Core.Path.{refl, ap}
+use mathlib.Core.List.{[]}
+use Prim.Native.Nat.{◌+◌, ◌-◌, ◌*◌, ◌≤◌}
+use native.Mathlib.Omega.{arith}
+use lib.ListN.{length}
+use Rattle.rules.specs.Hour.{pair_width}
+use Rattle.write_fields.specs.Inked.{Inked, up_to, inked_as, inked_none, inked_more, inked_all, room_as, room_next}
+use Rattle.hour_lines.specs.HourCells.{part_small}
+use Rattle.write_spreadsheet.specs.Rows.{label_at, pair_at, front_pair_at, pair_made}
+use Rattle.write_spreadsheet.proofs.put_row.Goals as goal
+
+pub loop-i-init : goal.loop-i-init
+loop-i-init c =
+    (search rules, search rules, c.requires.1.there, inked_none _ _ _)
+
+pub put_delivery-p-requires : goal.put_delivery-p-requires
+put_delivery-p-requires c =
+    let a = c.args in
+    let i = c.loop-i.i in
+    let records = pair_at a.sources a.cells.now a.base a.head.now in
+    let fronts = front_pair_at a.sources a.cells.now a.base a.head.now in (
+      omega (arith, ap length c.pair_amounts_at-amounts.ensures),
+      room_as (pair_made a.head.now (label_at a.sources i) c.pair_amounts_at-amounts.ensures [])
+          (room_next records fronts i a.n (omega arith) c.loop-i.invariant.3 c.requires.2),
+    )
+
+pub loop-i-preserved : goal.loop-i-preserved
+loop-i-preserved c =
+    let a = c.args in
+    let written = pair_made a.head.now (label_at a.sources c.loop-i.i) c.pair_amounts_at-amounts.ensures in
+    (search rules, search rules, search rules, inked_more _ _ c.loop-i.invariant.3 (inked_as written c.put_delivery-p.ensures))

@@ -1,0 +1,53 @@
+use borrow.Author.Rules.{rules}
+use Prim.Native.Nat.{◌≤◌}
+use native.Mathlib.Omega.{arith}
+use lib.ListN.{length}
+use Rattle.hour_lines.specs.HandedOver.{into_whole, told_as}
+use Rattle.write_spreadsheet.specs.HourFile.{hour_file}
+use Rattle.write_spreadsheet.specs.Sheets.{unmet, met, hour_fits, ended_refused, ended_done}
+use Rattle.write_spreadsheet.proofs.write_answer.Goals as goal
+
+pub returns-in-Refused-clause-outcome : goal.returns-in-Refused-clause-outcome
+returns-in-Refused-clause-outcome c =
+    let r = c.in-Refused.r in
+    let e = unmet c.args.h (length c.args.out.now) r (ended_refused c.args.h c.requires.2 r c.in-Refused.is) in rw e
+
+pub returns-in-Refused-clause-bytes : goal.returns-in-Refused-clause-bytes
+returns-in-Refused-clause-bytes c =
+    let r = c.in-Refused.r in
+    let e = unmet c.args.h (length c.args.out.now) r (ended_refused c.args.h c.requires.2 r c.in-Refused.is) in rw e
+
+pub hand_file-requires : goal.hand_file-requires
+hand_file-requires c =
+    let told = c.enum_told-1.given in
+    ended_done c.args.h c.requires.2 c.args.keys told.0.0 c.requires.0 c.requires.1 told.1
+
+pub returns-then-out-lt-MOST_FILE-clause-outcome : goal.returns-then-out-lt-MOST_FILE-clause-outcome
+returns-then-out-lt-MOST_FILE-clause-outcome c =
+    let told = c.enum_told-1.given in
+    let answered = ended_done c.args.h c.requires.2 c.args.keys told.0.0 c.requires.0 c.requires.1 told.1 in (told_as c.args.out.now (met c.args.h answered (length c.args.out.now)) c.hand_file.ensures).0
+
+pub returns-then-out-lt-MOST_FILE-clause-bytes : goal.returns-then-out-lt-MOST_FILE-clause-bytes
+returns-then-out-lt-MOST_FILE-clause-bytes c =
+    let told = c.enum_told-1.given in
+    let answered = ended_done c.args.h c.requires.2 c.args.keys told.0.0 c.requires.0 c.requires.1 told.1 in (told_as c.args.out.now (met c.args.h answered (length c.args.out.now)) c.hand_file.ensures).1
+
+pub put_file-requires : goal.put_file-requires
+put_file-requires c =
+    let told = c.enum_told-1.given in
+    let answered = ended_done c.args.h c.requires.2 c.args.keys told.0.0 c.requires.0 c.requires.1 told.1 in
+    (answered, omega (arith, hour_fits c.args.h answered, c.if-out-lt-MOST_FILE.false))
+
+pub returns-clause-outcome : goal.returns-clause-outcome
+returns-clause-outcome c =
+    let out = c.args.out.now in
+    let told = c.enum_told-1.given in
+    let answered = ended_done c.args.h c.requires.2 c.args.keys told.0.0 c.requires.0 c.requires.1 told.1 in
+    let fits : length (hour_file c.args.h) ≤ length out = omega (arith, hour_fits c.args.h answered, c.if-out-lt-MOST_FILE.false) in (told_as out (met c.args.h answered (length out)) (into_whole (hour_file c.args.h) out _ _ fits c.put_file.ensures.size c.put_file.ensures.bytes)).0
+
+pub returns-clause-bytes : goal.returns-clause-bytes
+returns-clause-bytes c =
+    let out = c.args.out.now in
+    let told = c.enum_told-1.given in
+    let answered = ended_done c.args.h c.requires.2 c.args.keys told.0.0 c.requires.0 c.requires.1 told.1 in
+    let fits : length (hour_file c.args.h) ≤ length out = omega (arith, hour_fits c.args.h answered, c.if-out-lt-MOST_FILE.false) in (told_as out (met c.args.h answered (length out)) (into_whole (hour_file c.args.h) out _ _ fits c.put_file.ensures.size c.put_file.ensures.bytes)).1
