@@ -10,7 +10,7 @@ use Rattle.balance.specs.Accounts.{direct, incremental, remaining, item_place, o
 use Rattle.balance.specs.AnswerCells.{cell_at, pair_place, open_place, pair_cell, open_cell, answer_length}
 use Rattle.balance.specs.Balance.{Balances}
 use Rattle.laws.specs.Choices.{not_false, refuse_passed}
-use Rattle.laws.specs.Signed.{sumℤ, sumℤ_same}
+use Rattle.laws.specs.Signed.{sumℤ_same}
 use Rattle.rules.specs.Calls as calls
 use Rattle.rules.specs.Calls.{reconstruction, leaves}
 use Rattle.rules.specs.Group.{Item, OpenItem}
