@@ -1,6 +1,6 @@
 -- A source's accounts: of its MWh, and of what they cost. In each, what deliveries are given, directly and through the remainder, and what is left open
 -- make up a whole.
-use Rattle.std.specs.Prelude.{List, map, ◌≡◌, refl, ℕ, ◌<◌, ℤ, pos, get_or}
+use Rattle.std.specs.Prelude.{map, ◌≡◌, refl, ℕ, ◌<◌, ℤ, pos, get_or}
 use Rattle.std.proofs.Common.{arith}
 use Rattle.rules.specs.Group.{Item, direct_mwh, incremental_mwh, direct_cost, incremental_cost, OpenItem, open_mwh, open_grains}
 use Rattle.rules.specs.Hour.{items, open_items, pair_width, open_width}

@@ -5,7 +5,7 @@ use Rattle.std.proofs.Common.{sym, ◌∙◌, arith}
 use Rattle.std.proofs.Math.Path.{ap}
 use Rattle.std.proofs.Math.ListN.{length, get_or, length-append}
 use Rattle.std.proofs.Math.Seq.{get_or-append-add}
-use Rattle.balance.specs.Accounts.{item_place, open_item_place, item_within, open_item_within, item_read, open_item_read}
+use Rattle.balance.specs.Accounts.{item_place, open_item_place, open_item_within, open_item_read}
 use Rattle.laws.specs.Choices.{accepted_same, Both, then_passed}
 use Rattle.laws.specs.Sums.{list_to_length, list_to_read}
 use Rattle.merit.specs.LevelNeverBelowB.{state_at}
@@ -56,9 +56,6 @@ module _ (h : Hour) (p : Progress) where
       get_or-append-add (list_to row h.ndeliveries) (list_to (open_cells p.states) h.nsources) (i * open_width + k) (pos 0) ∙
       ap (λ (x : List ℤ). get_or x (i * open_width + k) (pos 0)) (sym (append-nil (list_to (open_cells p.states) h.nsources))) ∙
       list_to_read (open_cells p.states) open_width (λ y. refl) h.nsources i k (pos 0) [] b c
-
-  pub pair_cell_lem : (j i : ℕ) (x : Item) → j < h.ndeliveries → i < h.nsources → pair_cell h (cells_of h p) j i x ≡ p.cells j i x
-  pair_cell_lem j i x a b = pair_at j i (item_place x) a b (item_within x) ∙ item_read (p.cells j i) x
 
   pub open_cell_lem : (i : ℕ) (x : OpenItem) → i < h.nsources → open_cell h (cells_of h p) i x ≡ pos (open_amount x (state_at p.states i))
   open_cell_lem i x b = open_at i (open_item_place x) b (open_item_within x) ∙ open_item_read (λ y. pos (open_amount y (state_at p.states i))) x

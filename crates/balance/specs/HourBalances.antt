@@ -6,20 +6,19 @@ use Rattle.std.proofs.Common.{ap, ◌∙◌, arith}
 use Rattle.std.proofs.Math.IntN.{+ℤ_idl, +ℤ_idr}
 use Rattle.std.proofs.Math.ListN.{get_or-map}
 use Rattle.balance.specs.Accounts.{Account, direct, incremental, whole}
-use Rattle.balance.specs.SharesMakeUpTheAmount.{shares_sum, share_none}
-use Rattle.balance.specs.TakenAndLeft.{left, opened_left, group_left}
+use Rattle.balance.specs.SharesMakeUpTheAmount.{share_none}
+use Rattle.balance.specs.TakenAndLeft.{left, opened_left}
 use Rattle.laws.specs.Choices.{accepted_same, Both, then_passed, true_not_false}
-use Rattle.laws.specs.Keys.{key_same, among, among_first, among_later, first_once, Turns, turns_rest, turns_first}
-use Rattle.laws.specs.Signed.{value, sumℤ, sumℤ_zero, sumℤ_carried}
+use Rattle.laws.specs.Keys.{key_same, among, Turns, turns_rest, turns_first}
+use Rattle.laws.specs.Signed.{sumℤ, sumℤ_zero}
 use Rattle.laws.specs.Sums.{sum_to_most, sum_to_add}
 use Rattle.merit.specs.ChangedFromB.{Starts}
-use Rattle.merit.specs.LevelNeverBelowB.{Sound, opened_sound, state_at, percent_of, percents, Directed, group_lines_directed, Moved, moved_sound}
-use Rattle.merit.specs.RemainderMoves.{shift_moved, remainder_moves}
+use Rattle.merit.specs.LevelNeverBelowB.{Sound, opened_sound, state_at, percent_of, percents, Directed, group_lines_directed}
 use Rattle.rules.specs.Group.{no_direct, opened, group_lines, remainder, Amount, Item, amount}
 use Rattle.rules.specs.Hour.{key_at, member, scheduled, counted, share, Cells, Progress, shared, took_all, rest, group, groups, opening}
 use Rattle.rules.specs.Reading.{percents_of}
 use Rattle.rules.specs.Record.{no_source, source_at}
-use Rattle.rules.specs.Refusals.{Outcome, accepted, and_then}
+use Rattle.rules.specs.Refusals.{Outcome, accepted}
 use Rattle.rules.specs.Words.{if◌then◌else◌}
 use Rattle.rules.specs.declared.Direct.{Direct}
 use Rattle.rules.specs.declared.Hour.{Hour}
@@ -136,56 +135,6 @@ module _ (h : Hour) (ks : List Key) where
   pub lines_directed : (x : Key) (xs : List Key) (p : Progress) → among xs x ≡ false → Balanced (x ∷ xs) p → (i : ℕ) → Directed (percents (member ks x) h.directs i h.ndirects) (state_at p.states i) (state_at (after_lines x p) i)
   lines_directed x xs p once b i = group_lines_directed (member ks x) h.directs p.states i (b.sound i) h.ndirects (omega (arith, lines_left x xs i h.ndirects once, b.percent i))
 
-  -- a group with members
-  pub grouped_balanced : (x : Key) (xs : List Key) (p q : Progress) → Turns ks h.ndeliveries (x ∷ xs) → Balanced (x ∷ xs) p → Grouped x p q → Balanced xs q
-  grouped_balanced x xs p q t b g =
-      rw g.is
-      (record {
-        sound = λ i. moved_sound _ _ (d i).took.sound (m i);
-        plant = λ i. ap (λ (y : Running). y.plant) (m i).is ∙ (d i).took.plant ∙ b.plant i;
-        percent = λ i. let e = ap (λ (y : Running). y.percent) (m i).is in omega (arith, e, (d i).percent, lines_left x xs i h.ndirects once, b.percent i);
-        untouched = λ j i item y. shared_keeps x ss ts us p.cells j i item (awaits_other x xs j once y) ∙ b.untouched j i item (among_later x xs (key_at ks j) y);
-        closes = λ a i. column i (direct a) (incremental a) (left a (state_at us i)) (left a (state_at ss i)) _ (group_left a (state_at ss i) (state_at ts i) (state_at us i) (b.sound i) (d i).took (m i)) (b.closes a i);
-      })
-    where
-      once : among xs x ≡ false
-      once = first_once x xs t.ordered
-
-      -- a member awaits its group
-      own : (j : ℕ) → member ks x j ≡ true → awaits (x ∷ xs) j ≡ true
-      own j e = rw (key_same (key_at ks j) x e) (among_first x xs)
-
-      ss : List Running
-      ss = p.states
-
-      ts : List Running
-      ts = after_lines x p
-
-      us : List Running
-      us = g.us
-
-      d : (i : ℕ) → Directed (percents (member ks x) h.directs i h.ndirects) (state_at ss i) (state_at ts i)
-      d = lines_directed x xs p once b
-
-      m : (i : ℕ) → Moved (state_at ts i) (state_at us i)
-      m i = shift_moved (d i).took.sound ((remainder_moves _ _ _ _ ts us g.done).each i)
-
-      part : (i : ℕ) (item : Item) → Amount
-      part i item = amount item (state_at ss i) (state_at ts i) (state_at us i)
-
-      adds : (i : ℕ) (item : Item) (j : ℕ) → j < h.ndeliveries → shared h ks x ss ts us p.cells j i item ≡ p.cells j i item +ℤ share h ks x (part i item) j
-      adds i item j y = shared_adds x ss ts us p.cells j i item (λ z. b.untouched j i item (own j z))
-
-      column : (i : ℕ) (v w : Item) (after before whole : ℕ) →
-          (value (part i v) +ℤ value (part i w)) +ℤ pos after ≡ pos before →
-          sumℤ (λ j. p.cells j i v +ℤ p.cells j i w) h.ndeliveries +ℤ pos before ≡ pos whole →
-          sumℤ (λ j. shared h ks x ss ts us p.cells j i v +ℤ shared h ks x ss ts us p.cells j i w) h.ndeliveries +ℤ pos after ≡ pos whole
-      column i v w after before whole y z =
-          sumℤ_carried h.ndeliveries (λ j. p.cells j i v) (λ j. p.cells j i w) (share h ks x (part i v)) (share h ks x (part i w))
-          (λ j. shared h ks x ss ts us p.cells j i v) (λ j. shared h ks x ss ts us p.cells j i w)
-          (value (part i v)) (value (part i w)) after before whole (adds i v) (adds i w)
-          (shares_sum h ks x (part i v) g.members) (shares_sum h ks x (part i w) g.members) y z
-
   pub start_balanced : Given h → (xs : List Key) → Balanced xs (opening h)
   start_balanced g xs =
       record {
@@ -205,6 +154,3 @@ module _ (h : Hour) (ks : List Key) where
           sum_to_most h.ndirects (λ q. percent_of (awaits xs (get_or h.directs q no_direct).delivery) (get_or h.directs q no_direct) i)
           (λ q. percent_of true (get_or h.directs q no_direct) i)
           (λ q l. put (awaits xs (get_or h.directs q no_direct).delivery) (get_or h.directs q no_direct) i)
-
-  pub groups_balanced : Given h → (ys xs : List Key) → Turns ks h.ndeliveries (ys ++ xs) → (q : Progress) → groups h ks ys (opening h) ≡ accepted q → Balanced xs q
-  groups_balanced g ys xs t q e = groups_keep Balanced grouped_balanced ys xs (opening h) q t (start_balanced g (ys ++ xs)) e

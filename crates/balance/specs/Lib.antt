@@ -10,8 +10,5 @@ pub mod HourBalances
 pub mod Balance
 pub mod CellsFit
 pub mod ValidHour
-pub mod AccountsClose
 pub mod EveryGroupIsDone
-pub mod NetMwhIsTheTotal
-pub mod EveryCellFits
 pub mod CellsAreFew

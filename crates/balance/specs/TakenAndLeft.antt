@@ -3,11 +3,12 @@
 use Rattle.std.specs.Prelude.{◌≡◌, refl, ℕ, ◌+◌, ◌-◌, pos, ◌+ℤ◌}
 use Rattle.std.proofs.Math.Path.{ap}
 use Rattle.std.proofs.Common.{arith}
-use Rattle.balance.specs.Accounts.{Account, mwhs, grains, direct, incremental, remaining, whole}
+use Rattle.balance.specs.Accounts.{Account, mwhs, grains, whole}
 use Rattle.laws.specs.Signed.{value, taken_left}
 use Rattle.merit.specs.ChangedFromB.{Starts, changed_over, changed_zero}
-use Rattle.merit.specs.LevelNeverBelowB.{Sound, charged_most, Took, took_value, Moved, moved_sound}
-use Rattle.rules.specs.Group.{level, changed, charged, opened, direct_mwh, incremental_mwh, direct_cost, incremental_cost, amount, open_cost, open_amount}
+use Rattle.merit.specs.LevelNeverBelowB.{Sound, Took, Moved, moved_sound}
+use Rattle.merit.proofs.LevelNeverBelowB.{charged_most, took_value}
+use Rattle.rules.specs.Group.{level, changed, charged, opened, direct_mwh, incremental_mwh, direct_cost, incremental_cost, amount, open_cost}
 use Rattle.rules.specs.Units.{cost, generation, generation_cost}
 use Rattle.rules.specs.declared.Plant.{Plant}
 use Rattle.rules.specs.declared.Running.{Running}
@@ -16,7 +17,7 @@ abbrev pub worth : Running → ℕ
 worth s = changed s (level s) - charged s
 
 -- "Open energy left on a source costs W(D + v) - W(D)": its worth
-open_worth : (s : Running) → Sound s → open_cost s ≡ worth s
+pub open_worth : (s : Running) → Sound s → open_cost s ≡ worth s
 open_worth s g = let e : s.d + s.v ≡ level s = omega arith in omega (arith, ap (changed s) e)
 
 -- at first, the cost of the source's generation
@@ -32,7 +33,7 @@ module _ (s t u : Running) (g : Sound s) (k : Took s t) (m : Moved t u) where
       let e : u.d ≡ t.d = ap (λ (x : Running). x.d) m.is in
       taken_left (t.d - s.d) (level t) (level u) u.v s.v (omega (arith, k.level, k.more))
 
-  group_cost : (value (amount direct_cost s t u) +ℤ value (amount incremental_cost s t u)) +ℤ pos (worth u) ≡ pos (worth s)
+  pub group_cost : (value (amount direct_cost s t u) +ℤ value (amount incremental_cost s t u)) +ℤ pos (worth u) ≡ pos (worth s)
   unfolding changed
   group_cost =
       let e : charged u ≡ charged t = ap charged m.is in
@@ -46,14 +47,6 @@ abbrev pub left : Account → Running → ℕ
 left mwhs s = s.v
 left grains s = worth s
 
-pub open_left : (a : Account) (s : Running) → Sound s → open_amount (remaining a) s ≡ left a s
-open_left mwhs s g = refl
-open_left grains s g = open_worth s g
-
 pub opened_left : (a : Account) (p : Plant) → Starts p → left a (opened p) ≡ whole a p
 opened_left mwhs p z = refl
 opened_left grains p z = opened_worth p z
-
-pub group_left : (a : Account) (s t u : Running) → Sound s → Took s t → Moved t u → (value (amount (direct a) s t u) +ℤ value (amount (incremental a) s t u)) +ℤ pos (left a u) ≡ pos (left a s)
-group_left mwhs s t u g k m = group_mwh_lem s t u g k m
-group_left grains s t u g k m = group_cost s t u g k m

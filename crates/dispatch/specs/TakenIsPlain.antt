@@ -6,7 +6,8 @@ use Rattle.dispatch.specs.Taken.{merit, Sources, Taken}
 use Rattle.laws.specs.Sums.{below_suc}
 use Rattle.cutoff.specs.Lines.{lanes, at}
 use Rattle.merit.specs.LevelNeverBelowB.{Sound, state_at}
-use Rattle.merit.specs.PlainIsSettled.{price_down, price_up, unload_whole, credit_whole}
+use Rattle.merit.specs.PlainIsSettled.{price_down, price_up}
+use Rattle.merit.proofs.PlainIsSettled.{unload_whole, credit_whole}
 use Rattle.merit.specs.PricesRise.{price}
 use Rattle.merit.specs.Settled.{Less, More, Settled, settled_key, settled_flip}
 use Rattle.rules.specs.Group.{level, Rung, last, room, headroom, lowered, raised, plain, unloading, crediting}

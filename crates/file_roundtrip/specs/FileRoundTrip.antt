@@ -1,37 +1,26 @@
 -- The spreadsheet file gives the written lines again, and every other file is refused.
---     file_read         reading the writing of lines that have a file gives those lines
 --     file_stood        a file that is accepted is the writing of its lines: one `hour`, any deliveries, any internals and one `end`
---     file_exactly      a file is accepted with ls exactly where it is the writing of ls, and ls has a file
---     one_list_only     two lists that have a file, and the same one, are the same list
 --     refusal_is_16     a file is refused with 16 and a record's number only, which is one more than its bytes at most
 --     enough_turns      more turns than the file has bytes change nothing
-use Rattle.std.specs.Prelude.{◌≡◌, refl, ◌↔◌, true, List, [], ◌++◌, ℕ, ◌+◌, ◌≤◌, length}
-use Rattle.std.proofs.Common.{ap, sym, subst, ◌∙◌, append_assoc, arith, length-append}
+use Rattle.std.specs.Prelude.{◌≡◌, refl, true, List, [], ◌++◌, ℕ, ◌+◌, ◌≤◌, length}
+use Rattle.std.proofs.Common.{ap, subst, ◌∙◌, append_assoc, arith, length-append}
 use Rattle.rules.specs.Refusals.{accepted, refused, place_of}
 use Rattle.rules.specs.Fields.{Field, got, malformed}
 use Rattle.rules.specs.Report.{ReportLine}
 use Rattle.rules.specs.Spreadsheet as spreadsheet
-use Rattle.rules.specs.Spreadsheet.{crlf, record_texts, header, file_text, headed, in_order, all_lines_fit, has_file, text_at, on_record, records_from, file_lines}
+use Rattle.rules.specs.Spreadsheet.{crlf, header, file_text, headed, has_file, text_at, on_record, records_from, file_lines}
 use Rattle.rules.specs.declared.Refusal.{Refusal}
 use Rattle.rules.specs.declared.Refusal.TheVariants.{FileRecord}
-use Rattle.laws.specs.Choices.{both_true, refused_not_accepted, accepted_same}
-use Rattle.file_roundtrip.specs.Standing.{Standing, text_behind, text_read, text_stood}
-use Rattle.file_roundtrip.specs.RecordsInTurn.{Numbered, records_read, records_stood, records_refused, records_enough}
+use Rattle.laws.specs.Choices.{refused_not_accepted}
+use Rattle.file_roundtrip.specs.Standing.{Standing, text_behind, text_stood}
+use Rattle.file_roundtrip.specs.RecordsInTurn.{Numbered, records_stood, records_refused, records_enough}
 
 -- "the header's being 1"
-abbrev header_record : List ℕ
+abbrev pub header_record : List ℕ
 header_record = header ++ crlf []
 
 header_stood : (s : List ℕ) (p : ℕ) → text_at s 0 header_record ≡ got tt p → Standing s 0 p (λ rest. header_record ++ rest)
 header_stood s p e = text_stood header_record s 0 p refl e
-
-pub file_read : (ls : List ReportLine) → has_file ls ≡ true → file_lines (file_text ls) ≡ accepted ls
-unfolding spreadsheet.file_text spreadsheet.has_file spreadsheet.file_lines
-file_read ls f =
-    let s = header ++ crlf (record_texts ls) in
-    let b = both_true (in_order headed ls) (all_lines_fit ls) f in
-    let r = text_read header_record s (record_texts ls) 0 (sym (append_assoc header (crlf []) (record_texts ls))) in
-    rw r.is (records_read s (length s) ls headed 2 r.next (omega arith) refl b.0 b.1 r.past)
 
 pub file_stood : (s : List ℕ) (ls : List ReportLine) → file_lines s ≡ accepted ls → (s ≡ file_text ls) × (has_file ls ≡ true)
 unfolding spreadsheet.file_text spreadsheet.has_file spreadsheet.file_lines
@@ -43,12 +32,6 @@ file_stood s ls e = go (text_at s 0 header_record) refl e
         let r = records_stood s (length s) headed 2 p ls e in
         ((header_stood s p x).text ∙ append_assoc header (crlf []) _ ∙ ap (λ (l : List ℕ). header ++ crlf l) r.text, rw r.order r.fit)
     go malformed x e = refused_not_accepted (FileRecord 1) ls e
-
-pub file_exactly : (s : List ℕ) (ls : List ReportLine) → (file_lines s ≡ accepted ls) ↔ ((s ≡ file_text ls) × (has_file ls ≡ true))
-file_exactly s ls = (file_stood s ls, λ w. ap file_lines w.0 ∙ file_read ls w.1)
-
-pub one_list_only : (ls ms : List ReportLine) → has_file ls ≡ true → has_file ms ≡ true → file_text ls ≡ file_text ms → ls ≡ ms
-one_list_only ls ms f g e = accepted_same ls ms (sym (file_read ls f) ∙ ap file_lines e ∙ file_read ms g)
 
 -- the header is the first record, of an empty file too, and each record that was passed has a byte at least
 pub refusal_is_16 : (s : List ℕ) (r : Refusal) → file_lines s ≡ refused r → (r ≡ FileRecord (place_of r)) × (1 ≤ place_of r) × (place_of r ≤ length s + 1)

@@ -4,7 +4,8 @@ use Rattle.std.proofs.Common.{◌∙◌, arith}
 use Rattle.std.proofs.lemmas.List.{length-map}
 use Rattle.std.proofs.Math.ListN.{get_or-map}
 use Rattle.balance.specs.ValidHour.{valid_balances, valid_small, valid_levels}
-use Rattle.balance.specs.HourBalances.{plant_at, after_lines, Grouped, Balanced, lines_left, lines_directed, grouped_balanced, start_balanced}
+use Rattle.balance.specs.HourBalances.{plant_at, after_lines, Grouped, Balanced, lines_left, lines_directed, start_balanced}
+use Rattle.balance.proofs.HourBalances.{grouped_balanced}
 use Rattle.laws.specs.Choices.{refused_not_accepted, accepted_same}
 use Rattle.laws.specs.Keys.{among, first_once, Turns}
 use Rattle.merit.specs.LevelNeverBelowB.{state_at, Took}

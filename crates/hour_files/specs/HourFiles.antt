@@ -25,7 +25,7 @@ use Rattle.rules.specs.declared.Hour.{Hour}
 use Rattle.rules.specs.declared.Refusal.TheVariants.{Short, NoDeck}
 use Rattle.laws.specs.Choices.{not_false, accepted_same, refuse_passed, then_passed}
 use Rattle.roundtrip.specs.DeckRoundTrip.{valid_reads_back, accepted_is_valid}
-use Rattle.file_roundtrip.specs.FileRoundTrip.{file_read, one_list_only}
+use Rattle.file_roundtrip.proofs.FileRoundTrip.{file_read, one_list_only}
 use Rattle.hour_files.specs.HourLinesFit.{hour_finishes}
 
 -- An hour.

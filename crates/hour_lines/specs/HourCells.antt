@@ -13,9 +13,11 @@ use Rattle.rules.specs.declared.Hour.{Hour}
 use Rattle.rules.specs.declared.Key.{Key}
 use Rattle.roundtrip.specs.GivenHour.{GivenHour, valid_given}
 use Rattle.balance.specs.Accounts.{item_place, open_item_place, item_within, open_item_within}
-use Rattle.balance.specs.AnswerCells.{cell_at, pair_place, open_place, pair_cell_lem, open_cell_lem, cells_length}
+use Rattle.balance.specs.AnswerCells.{cell_at, pair_place, open_place, open_cell_lem, cells_length}
+use Rattle.balance.proofs.AnswerCells.{pair_cell_lem}
 use Rattle.balance.specs.CellsAreFew.{cells_few}
-use Rattle.balance.specs.CellsFit.{SmallCell, answer_small}
+use Rattle.balance.specs.CellsFit.{SmallCell}
+use Rattle.balance.proofs.CellsFit.{answer_small}
 use Rattle.balance.specs.ValidHour.{valid_balances, valid_small}
 use Rattle.hour_lines.specs.LineAmounts.{SmallFirst, fewer_small, pair_from, open_from, SmallAmounts, pair_amounts_small, open_amounts_small}
 

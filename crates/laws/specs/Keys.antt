@@ -1,11 +1,10 @@
 -- Keys of groups: which are the same, and their turns: each key that a delivery has stands among the turns, once, and those that go before stand before.
 use Rattle.std.specs.Prelude.{Bool, true, false, ◌||◌, List, [], ◌∷◌, ◌≡◌, refl, ℕ, zero, suc, ◌+◌, ◌≤◌, ◌<◌, length}
-use Rattle.std.proofs.Common.{sym, ap, ◌∙◌, arith, eq-eqb, ne_eqb, eqb-true, ltb-true, ltb-false, lt-ltb, le-ltb}
-use Rattle.std.proofs.Math.Decide.{dec_lt}
+use Rattle.std.proofs.Common.{sym, ap, ◌∙◌, arith, eq-eqb, ne_eqb, eqb-true, ltb-true, ltb-false}
 use Rattle.std.proofs.lemmas.Bool.{eqb-false}
 use Rattle.laws.specs.Choices.{true_not_false}
 use Rattle.laws.specs.Internal.{internal}
-use Rattle.laws.specs.Sums.{sum_to_part, sum_to_longer}
+use Rattle.laws.specs.Sums.{sum_to_part}
 use Rattle.rules.specs.Hour.{key_at, same_key, member, counted, goes_before, in_turn, turns}
 use Rattle.rules.specs.Words.{if◌then◌else◌, sum_to}
 use Rattle.rules.specs.declared.Key.{Key}

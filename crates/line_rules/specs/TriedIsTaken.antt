@@ -9,7 +9,7 @@ use Rattle.rules.specs.Words.{if◌then◌else◌}
 use Rattle.rules.specs.Refusals.{Outcome, accepted, refused, refuse, and_then}
 use Rattle.rules.specs.Units.{is_unit, levelled}
 use Rattle.rules.specs.Record.{source_at, with_source, with_delivery, with_direct}
-use Rattle.rules.specs.Reading.{line_number, source_taken, delivery_taken, named, basis_kept, high, below_high, percents_of, direct_taken}
+use Rattle.rules.specs.Reading.{line_number, source_taken, delivery_taken, named, basis_kept, below_high, percents_of, direct_taken}
 use Rattle.rules.specs.declared.Label.{Label}
 use Rattle.rules.specs.declared.Plant.{Plant}
 use Rattle.rules.specs.declared.Plant.TheVariants.{Unit as U, Purchase as P, Fixed as F}

@@ -1,11 +1,11 @@
 -- W as changed is W from b up; W grows with the level, and W as changed up to b.
-use Rattle.std.specs.Prelude.{Bool, true, false, ◌&&◌, ◌≡◌, refl, ℕ, zero, suc, ◌+◌, ◌-◌, ◌*◌, ◌/◌, ◌≤◌, leb, eqb}
+use Rattle.std.specs.Prelude.{Bool, true, false, ◌&&◌, ◌≡◌, refl, ℕ, zero, suc, ◌+◌, ◌*◌, ◌/◌, ◌≤◌, leb, eqb}
 use Rattle.std.proofs.Common.{ap, sym, le_trans, mul-div_cancel, mul-le-mul, mul-le-mul_left, mul-le-mul_right, mul-zero, arith, le-leb, leb-true, ne_eqb}
 use Rattle.std.proofs.Math.Decide.{dec_le}
 use Rattle.std.proofs.Math.Nat.{div-zero, zero-div}
 use Rattle.std.proofs.lemmas.Bool.{lt-leb}
 use Rattle.laws.specs.Sums.{div_grows, part_most}
-use Rattle.rules.specs.Group.{prorated, changed}
+use Rattle.rules.specs.Group.{changed}
 use Rattle.rules.specs.Units.{heat, curve_cost, cost}
 use Rattle.rules.specs.Words.{if◌then◌else◌}
 use Rattle.rules.specs.declared.HeatCurve.{HeatCurve}

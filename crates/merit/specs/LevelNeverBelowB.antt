@@ -6,9 +6,9 @@ use Rattle.std.proofs.Math.Decide.{dec_lt, ℕ_discrete}
 use Rattle.std.proofs.Math.Seq.{set_out}
 use Rattle.laws.specs.Choices.{true_not_false}
 use Rattle.laws.specs.Sums.{div_grows, part_most}
-use Rattle.merit.specs.ChangedFromB.{cost_grows, Starts, changed_over, changed_under, changed_zero}
+use Rattle.merit.specs.ChangedFromB.{Starts, changed_under, changed_zero}
 use Rattle.rules.specs.Group.{no_running, no_direct, level, changed, charged, basis, with_basic, renewed, directed, group_line, group_lines, opened, with_open, Rung, normal, oil, emergency, last, floor, room, lowered, raised}
-use Rattle.rules.specs.Units.{cost, curve_cost, movable}
+use Rattle.rules.specs.Units.{curve_cost, movable}
 use Rattle.rules.specs.Words.{if◌then◌else◌, sum_to}
 use Rattle.rules.specs.declared.Basis.{Basis}
 use Rattle.rules.specs.declared.Direct.{Direct}
@@ -31,20 +31,6 @@ opened_sound p z =
       part = omega arith;
       unset = λ e. (refl, refl);
     }
-
--- what was charged is at most W at the level
-pub charged_most : (s : Running) → Sound s → charged s ≤ changed s (level s)
-charged_most s g = go s.based refl
-  where
-    z : changed s s.b ≤ changed s (level s)
-    z = rw (changed_over s g.starts s.b (omega arith), changed_over s g.starts (level s) g.above) (cost_grows s.plant s.b (level s) g.above)
-
-    go : (t : Bool) → s.based ≡ t → charged s ≤ changed s (level s)
-    go true e = le_trans (changed_under s e s.d s.b g.part (omega arith)) z
-    go false e =
-        let d0 : s.d ≡ 0 = omega (arith, g.part, (g.unset e).0) in
-        let p : charged s ≡ 0 = ap (changed s) d0 ∙ changed_zero s g.starts in
-        omega arith
 
 -- Direct.
 
@@ -72,12 +58,6 @@ took_then s t u a b =
       basic = omega (arith, a.basic, b.basic, a.level, a.more);
       sound = b.sound;
     }
-
--- W at the level stays: it is W as it was, whatever b is
-pub took_value : (s t : Running) → Sound s → Took s t → changed t (level t) ≡ changed s (level s)
-took_value s t g k =
-    changed_over t k.sound.starts (level t) k.sound.above ∙ ap (λ (p : Plant). cost p (level t)) k.plant ∙ ap (cost s.plant) k.level ∙
-    sym (changed_over s g.starts (level s) g.above)
 
 -- with b set, D renewed
 renewed_took : (s : Running) (p : ℕ) → Sound s → s.based ≡ true → s.percent ≤ p → p ≤ 100 → Took s (renewed s p)

@@ -1,14 +1,11 @@
 -- From the curve's start up W rises by a price that never falls with the level: W(m) - W(m-1) <= W(m+1) - W(m).
 -- So does W as changed, from the curve's start and b up. The price has a closed form, (2B + C(2m - 1))·R.
-use Rattle.std.specs.Prelude.{◌≡◌, refl, ℕ, ◌+◌, ◌-◌, ◌*◌, ◌≤◌, ◌<◌, max}
+use Rattle.std.specs.Prelude.{◌≡◌, refl, ℕ, ◌+◌, ◌-◌, ◌*◌, ◌≤◌, ◌<◌}
 use Rattle.std.proofs.Common.{mul-le-mul_left, mul-le-mul_right, arith, le-leb}
-use Rattle.merit.specs.ChangedFromB.{Starts, changed_over}
-use Rattle.rules.specs.Group.{changed}
 use Rattle.rules.specs.Units.{heat, curve_cost, cost}
 use Rattle.rules.specs.declared.HeatCurve.{HeatCurve}
 use Rattle.rules.specs.declared.Plant.{Plant}
 use Rattle.rules.specs.declared.Plant.TheVariants.{Unit as U, Purchase as P, Fixed as F}
-use Rattle.rules.specs.declared.Running.{Running}
 
 -- the price of the m-th MWh, from the curve's start up
 unfoldable pub curve_price : HeatCurve → ℕ → ℕ
@@ -48,24 +45,11 @@ cost_step (U u) m h = rw (le-leb u.curve.k m h, le-leb u.curve.k (m + 1) (omega 
 cost_step (P g rate) m h = omega arith
 cost_step (F g) m h = refl
 
-pub changed_step : (s : Running) → Starts s.plant → (m : ℕ) → s.b ≤ m → curve_start s.plant ≤ m → changed s (m + 1) ≡ changed s m + price s.plant (m + 1)
-changed_step s z m h k = omega (arith, changed_over s z m h, changed_over s z (m + 1) (omega arith), cost_step s.plant m k)
-
--- the top MWh
-pub changed_top : (s : Running) → Starts s.plant → (m : ℕ) → s.b < m → curve_start s.plant < m → changed s m - changed s (m - 1) ≡ price s.plant m
-changed_top s z m h k =
-    let e : m - 1 + 1 ≡ m = omega arith in
-    omega (arith, rw e at (changed_step s z (m - 1) (omega arith) (omega arith)))
-
 -- what rises by the price from some level up rises ever faster
-steps_rise : (f : ℕ → ℕ) (p : Plant) (least m : ℕ) → ((z : ℕ) → least ≤ z → f (z + 1) ≡ f z + price p (z + 1)) → least < m → f m - f (m - 1) ≤ f (m + 1) - f m
+pub steps_rise : (f : ℕ → ℕ) (p : Plant) (least m : ℕ) → ((z : ℕ) → least ≤ z → f (z + 1) ≡ f z + price p (z + 1)) → least < m → f m - f (m - 1) ≤ f (m + 1) - f m
 steps_rise f p least m h l =
     let e : m - 1 + 1 ≡ m = omega arith in
     omega (arith, rw e at (h (m - 1) (omega arith)), h m (omega arith), price_rises p m (m + 1) (omega arith))
 
 pub cost_rises : (p : Plant) (m : ℕ) → curve_start p < m → cost p m - cost p (m - 1) ≤ cost p (m + 1) - cost p m
 cost_rises p m h = steps_rise (cost p) p (curve_start p) m (cost_step p) h
-
-pub changed_rises : (s : Running) → Starts s.plant → (m : ℕ) → max s.b (curve_start s.plant) < m → changed s m - changed s (m - 1) ≤ changed s (m + 1) - changed s m
-changed_rises s z m h =
-    steps_rise (changed s) s.plant (max s.b (curve_start s.plant)) m (λ y l. changed_step s z y (omega arith) (omega arith)) h

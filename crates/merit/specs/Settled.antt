@@ -64,7 +64,7 @@ module _ (better first : ℕ → ℕ → Type 0) (n : ℕ) (cap : ℕ → ℕ) (
   abbrev pub Falling : Type 0
   Falling = (i k l : ℕ) → i < n → k ≤ l → l < cap i → better (key i l) (key i k) → ⊥
 
--- t with one More at a place
+-- t with one more at a place
 abbrev pub bump : ℕ → (ℕ → ℕ) → ℕ → ℕ
 bump at t i = if eqb i at then suc (t i) else t i
 

@@ -4,8 +4,8 @@ use Rattle.std.specs.Prelude.{true, not, List, ◌++◌, ◌≡◌, ℕ, suc, �
 use Rattle.std.proofs.Common.{ap, mul-le-mul_right, arith, SFits}
 use Rattle.std.proofs.Math.ListN.{get_or-append}
 use Rattle.std.specs.Int.{w64}
-use Rattle.balance.specs.AccountsClose.{accounts_close}
-use Rattle.balance.specs.EveryCellFits.{every_cell_fits}
+use Rattle.balance.proofs.AccountsClose.{accounts_close}
+use Rattle.balance.proofs.EveryCellFits.{every_cell_fits}
 use Rattle.balance.specs.Accounts.{direct, incremental, remaining, item_place, open_item_place, item_within, open_item_within}
 use Rattle.balance.specs.AnswerCells.{cell_at, pair_place, open_place, pair_cell, open_cell, answer_length}
 use Rattle.balance.specs.Balance.{Balances}

@@ -7,7 +7,7 @@ use Rattle.std.proofs.Math.Path.{refl}
 use Rattle.std.proofs.Common.{sym, ap, ◌∙◌, arith, leb-false}
 use Rattle.std.proofs.lemmas.Bool.{not-false}
 use Rattle.balance.specs.EveryGroupIsDone.{every_number_is_low}
-use Rattle.balance.specs.RefusedExactly.{unload_refused, credit_refused}
+use Rattle.balance.proofs.RefusedExactly.{unload_refused, credit_refused}
 use Rattle.refusals.specs.Codes.{code_of}
 use Rattle.file_roundtrip.specs.FileRoundTrip.{refusal_is_16}
 use Rattle.laws.specs.Keys.{among, among_first, among_later, among_turns, among_found}

@@ -7,8 +7,9 @@ use Rattle.rules.specs.Hour.{keys, turns, groups, opening, cells_of}
 use Rattle.rules.specs.Writing.{valid}
 use Rattle.rules.specs.declared.Hour.{Hour}
 use Rattle.balance.specs.ValidHour.{valid_balances}
-use Rattle.balance.specs.Balance.{Balances, cells_balance}
-use Rattle.balance.specs.HourBalances.{groups_balanced}
+use Rattle.balance.specs.Balance.{Balances}
+use Rattle.balance.proofs.Balance.{cells_balance}
+use Rattle.balance.proofs.HourBalances.{groups_balanced}
 use Rattle.balance.specs.KeysOfAnHour.{hour_turns}
 use Rattle.laws.specs.Choices.{Both, then_passed, accepted_same}
 

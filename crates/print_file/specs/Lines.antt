@@ -20,7 +20,8 @@ use Rattle.rules.specs.declared.Refusal.TheVariants.{Short}
 use Rattle.rules.specs.declared.Verdict.TheVariants.{Accepted, Refused}
 use Rattle.rules.specs.declared.Written.TheVariants.{Count, Refused as NotWritten}
 use Rattle.laws.specs.Choices.{both_true}
-use Rattle.file_roundtrip.specs.Records.{record_read, record_stood}
+use Rattle.file_roundtrip.specs.Records.{record_stood}
+use Rattle.file_roundtrip.proofs.Records.{record_read}
 use Rattle.file_roundtrip.specs.FileRoundTrip.{file_stood}
 use Rattle.read_records.specs.Answers.{field_of}
 use Rattle.read_records.specs.declared.Record.{Record}

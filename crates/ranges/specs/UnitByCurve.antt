@@ -1,10 +1,9 @@
 -- A unit's numbers are in their ranges where its levels are and the curve is; so a unit is judged by its levels and by what making its curve answers.
 use Rattle.std.specs.Prelude.{◌≡◌, refl, Bool, true, false, not, ◌&&◌, ℕ}
 use Rattle.std.proofs.Common.{ap, sym, ◌∙◌, arith}
-use Rattle.rules.specs.Words.{if◌then◌else◌}
 use Rattle.rules.specs.Ranges.{inside, unit_level, coefficient_a, coefficient_b, coefficient_c, heat_rate}
 use Rattle.rules.specs.Units.{curve_inside, curve_made}
-use Rattle.rules.specs.Refusals.{Outcome, accepted, refused, refuse}
+use Rattle.rules.specs.Refusals.{accepted, refuse}
 use Rattle.rules.specs.Answers.{curve_answer}
 use Rattle.rules.specs.Lines as lines
 use Rattle.rules.specs.declared.HeatCurve.{HeatCurve}

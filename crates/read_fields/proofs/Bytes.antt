@@ -10,7 +10,6 @@ use Rattle.rules.specs.Fields as fields
 use Rattle.rules.specs.Fields.{Field, got, malformed, on_field, byte, byte_at}
 use Rattle.roundtrip.specs.Fields.{byte_there, byte_stood}
 use Rattle.read_fields.specs.Answers.{step_of}
-use Rattle.read_fields.specs.declared.Step.{Step}
 use Rattle.read_fields.specs.declared.Step.TheVariants.{At, Missing}
 
 pub byte_missing : (s : List ℕ) (at b : ℕ) → 0 < b → length s ≤ at → byte_at s at b ≡ malformed

@@ -1,8 +1,7 @@
 -- A delivery gets no internal number just where no delivery has one of its own: 11 then names the first T line, and no line else.
-use Rattle.std.specs.Prelude.{Bool, true, false, not, ◌&&◌, List, ◌≡◌, get_or}
+use Rattle.std.specs.Prelude.{Bool, true, false, not, List, ◌≡◌, get_or}
 use Rattle.std.proofs.Math.Option.{Option, none, some}
 use Rattle.std.proofs.Math.Path.{refl}
-use Rattle.std.proofs.Common.{sym, ◌∙◌}
 use Prim.Native.Nat.{ℕ, zero, suc, ◌<◌, min}
 use Rattle.std.proofs.Math.Decide.{dec_lt}
 use native.Mathlib.Omega.{arith}

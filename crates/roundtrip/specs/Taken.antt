@@ -1,6 +1,6 @@
 -- A line that the reader takes is that of an entry which the rules let through, and the hour after it has that entry.
 use Rattle.std.specs.Prelude.{◌≡◌, refl, Bool, true, false, not, ◌&&◌, ℕ, ◌+◌, ◌<◌, ◌≤◌, leb, ltb, eqb}
-use Rattle.std.proofs.Common.{ap, sym, subst, ◌∙◌, leb-false, ltb-false, eqb-true}
+use Rattle.std.proofs.Common.{ap, subst, ◌∙◌, leb-false, ltb-false, eqb-true}
 use Rattle.std.proofs.Math.Option.{Option, none, some}
 use Rattle.rules.specs.Refusals.{Outcome, accepted}
 use Rattle.rules.specs.Units.{is_unit, levelled}
@@ -18,7 +18,7 @@ use Rattle.rules.specs.declared.Direct.{Direct}
 use Rattle.rules.specs.declared.Hour.{Hour}
 use Rattle.rules.specs.declared.Refusal.{Refusal}
 use Rattle.rules.specs.declared.Refusal.TheVariants.{Range, Overdrawn}
-use Rattle.laws.specs.Choices.{both_true, not_false, none_not_some, refused_not_accepted, accepted_same, refuse_passed}
+use Rattle.laws.specs.Choices.{both_true, not_false, refused_not_accepted, accepted_same, refuse_passed}
 use Rattle.laws.specs.Lists.{same_list_tells, find_to_passes}
 use Rattle.roundtrip.specs.Labels.{chars_label}
 use Rattle.roundtrip.specs.Lines.{line_ranged}

@@ -1,5 +1,5 @@
 -- Document 02, item 1: spreadsheet files, by one statement over one table.
-use Rattle.std.specs.Prelude.{Bool, true, false, not, ◌&&◌, List, [], ◌∷◌, ◌++◌, ◌≡◌, refl, ℕ, eqb, length, replicate}
+use Rattle.std.specs.Prelude.{Bool, true, false, ◌&&◌, List, [], ◌∷◌, ◌++◌, ◌≡◌, refl, ℕ, eqb, length, replicate}
 use Prim.Native.String.{String}
 use Rattle.rules.specs.Words.{sum_to, list_to, all_to, any_to, find_to, same_list, text}
 use Rattle.rules.specs.Refusals.{Outcome, accepted, refused, number_of, place_of}
@@ -11,11 +11,9 @@ use Rattle.rules.specs.Fields.{byte_at, run, number_at, digits_in, digits, escap
 use Rattle.rules.specs.Lines.{fields_at, seen, written, ranged, labelled, letter_of, places_at, line_at, line_text}
 use Rattle.rules.specs.Record.{started, body}
 use Rattle.rules.specs.Reading.{taken, feed, headed, finished, lines_from, reading}
-use Rattle.rules.specs.Writing.{texts, deck_text, same_by, same_hour, all_labelled, given, valid}
 use Rattle.rules.specs.Report.{ReportLine, hour_lines, report_lines, amounts_text, report_text, report_texts, report}
 use Rattle.rules.specs.Spreadsheet.{doubled, number_fields, unused, record_text, record_texts, file_text, in_order, all_fit, all_lines_fit, has_file, text_at, quoted, label_at, signed_at, number_field_at, numbers_at, last_fields_at, hour_at, delivery_at, internal_at, end_at, record_at, records_from, file_lines}
 use Rattle.rules.specs.Calls.{leaves, file_for, spreadsheet, deck_spreadsheet, spreadsheet_lines}
-use Rattle.rules.specs.declared.Hour.{Hour}
 
 -- the bytes of a deck's or a report's lines, and of a file's records
 abbrev lines : List String → List ℕ

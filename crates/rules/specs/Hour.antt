@@ -1,5 +1,5 @@
 -- Document 01, "Sequence numbers", "One group" and "Numbers a call may give back": the whole hour and its cells.
-use Rattle.std.specs.Prelude.{Bool, List, [], ◌∷◌, ◌++◌, map, ℕ, zero, suc, ◌+◌, ◌-◌, ◌*◌, ltb, get_or, take, ℤ, pos}
+use Rattle.std.specs.Prelude.{Bool, List, [], ◌∷◌, ◌++◌, map, ℕ, suc, ◌+◌, ◌-◌, ◌*◌, ltb, get_or, take, ℤ, pos}
 use Rattle.std.proofs.Math.Option.{Option, none, some}
 use Rattle.rules.specs.Words.{if◌then◌else◌, sum_to, list_to}
 use Rattle.rules.specs.Refusals.{Outcome, accepted, and_then}

@@ -1,5 +1,5 @@
 -- Document 02, item 1, "The allocations as a spreadsheet file": the report's lines as RFC 4180 text, and what a file's bytes come to.
-use Rattle.std.specs.Prelude.{Bool, true, false, ◌&&◌, ◌||◌, List, [], ◌∷◌, ◌++◌, ℕ, zero, suc, ◌+◌, ◌-◌, leb, ltb, eqb, ℤ, pos, negsuc, length, drop}
+use Rattle.std.specs.Prelude.{Bool, true, false, ◌&&◌, ◌||◌, List, [], ◌∷◌, ◌++◌, ℕ, zero, suc, ◌+◌, ◌-◌, ltb, eqb, ℤ, pos, negsuc, length, drop}
 use Rattle.std.proofs.Math.Option.{Option, none, some}
 use Rattle.rules.specs.Words.{if◌then◌else◌, text}
 use Rattle.rules.specs.Refusals.{Outcome, accepted, refused, and_then}

@@ -1,5 +1,5 @@
 -- Document 01, "Units, curves and money". Money is in grains, 20,000,000 to the dollar.
-use Rattle.std.specs.Prelude.{Bool, true, false, not, ◌&&◌, ℕ, ◌+◌, ◌-◌, ◌*◌, ◌/◌, leb}
+use Rattle.std.specs.Prelude.{Bool, true, false, not, ◌&&◌, ℕ, ◌+◌, ◌*◌, ◌/◌, leb}
 use Rattle.rules.specs.Words.{if◌then◌else◌}
 use Rattle.rules.specs.Refusals.{Outcome, accepted, refuse}
 use Rattle.rules.specs.Ranges.{inside, unit_level, coefficient_a, coefficient_b, coefficient_c, heat_rate, cost_level}

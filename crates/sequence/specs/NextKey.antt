@@ -4,7 +4,7 @@ use Rattle.std.proofs.Common.{sym, ap, ◌∙◌, add-one, ltb-true, ltb-false, 
 use native.Mathlib.Omega.{arith}
 use Rattle.laws.specs.Choices.{true_not_false}
 use Rattle.laws.specs.Keys.{key_itself, key_other, among, among_first, among_either, Turns, turns_rest, turns_first, first_before}
-use Rattle.rules.specs.Hour.{no_key, key_at, same_key, counted, goes_before}
+use Rattle.rules.specs.Hour.{no_key, key_at, counted, goes_before}
 use Rattle.rules.specs.Words.{if◌then◌else◌, sum_to}
 use Rattle.rules.specs.declared.Key.{Key}
 use Rattle.sequence.specs.declared.NextGroup.{NextGroup}

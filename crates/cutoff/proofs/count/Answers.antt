@@ -1,4 +1,4 @@
-use Rattle.std.proofs.Common.{arith, rules}
+use Rattle.std.proofs.Common.{arith}
 use Rattle.cutoff.specs.Tally.{stock_more, stock_same}
 use Rattle.cutoff.proofs.count.Goals as goal
 

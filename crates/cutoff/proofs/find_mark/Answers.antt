@@ -1,6 +1,5 @@
-use Rattle.std.proofs.Common.{◌-◌, ◌≤◌, sym, ⊎_elim, arith, rules}
+use Rattle.std.proofs.Common.{sym, arith}
 use Rattle.cutoff.specs.Tally.{table_scales, supply_none}
-use Rattle.cutoff.specs.Lines.{Marked}
 use Rattle.cutoff.proofs.find_mark.Goals as goal
 
 pub loop-round-init : goal.loop-round-init

@@ -1,5 +1,4 @@
-use Rattle.std.proofs.Common.{◌-◌, ◌≤◌, sym, ⊎_elim, arith, rules}
-use Rattle.cutoff.specs.Tally.{table_scales, supply_none}
+use Rattle.std.proofs.Common.{◌-◌, ◌≤◌}
 use Rattle.cutoff.specs.Lines.{Marked}
 use Rattle.cutoff.proofs.find_mark.Given as goal
 
@@ -8,4 +7,3 @@ invariant-loop-round l = (l.round ≤ 64) × Marked l.one l.step l.span l.inv l.
 
 abbrev pub decreases-loop-round : goal.decreases-loop-round
 decreases-loop-round l = 64 - l.round
-

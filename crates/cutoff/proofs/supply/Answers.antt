@@ -1,8 +1,7 @@
-use Rattle.std.proofs.Common.{◌≡◌, ◌-◌, ◌≤◌, arith, rules}
+use Rattle.std.proofs.Common.{arith}
 use Rattle.cutoff.specs.Tally.{stock_few, supply_few}
-use Rattle.cutoff.specs.Lines.{at, stock_at}
-use Rattle.rules.specs.Words.{sum_to}
-use Rattle.laws.specs.Sums.{sum_to_none, sum_to_more, sum_to_end}
+use Rattle.cutoff.specs.Lines.{at}
+use Rattle.laws.specs.Sums.{sum_to_none, sum_to_more}
 use Rattle.cutoff.proofs.supply.Goals as goal
 
 pub loop-i-init : goal.loop-i-init

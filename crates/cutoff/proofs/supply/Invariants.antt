@@ -1,8 +1,6 @@
-use Rattle.std.proofs.Common.{◌≡◌, ◌-◌, ◌≤◌, arith, rules}
-use Rattle.cutoff.specs.Tally.{stock_few, supply_few}
-use Rattle.cutoff.specs.Lines.{at, stock_at}
+use Rattle.std.proofs.Common.{◌≡◌, ◌-◌, ◌≤◌}
+use Rattle.cutoff.specs.Lines.{stock_at}
 use Rattle.rules.specs.Words.{sum_to}
-use Rattle.laws.specs.Sums.{sum_to_none, sum_to_more, sum_to_end}
 use Rattle.cutoff.proofs.supply.Given as goal
 
 abbrev pub invariant-loop-i : goal.invariant-loop-i
@@ -10,4 +8,3 @@ invariant-loop-i l = (l.i ≤ l.n) × (l.sum ≡ sum_to (stock_at l.one l.step l
 
 abbrev pub decreases-loop-i : goal.decreases-loop-i
 decreases-loop-i l = l.n - l.i
-

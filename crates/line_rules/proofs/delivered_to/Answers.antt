@@ -1,9 +1,5 @@
-use mathlib.Core.Path.{◌≡◌}
-use Prim.Native.Nat.{◌-◌, ◌*◌, ◌≤◌}
-use native.Mathlib.Omega.{arith}
 use borrow.Author.Rules.{rules}
-use Rattle.laws.specs.Sums.{sum_to_none, sum_to_more, sum_to_end}
-use Rattle.line_rules.specs.Tried.{above_one, delivered_to}
+use Rattle.laws.specs.Sums.{sum_to_none, sum_to_more}
 use Rattle.line_rules.proofs.delivered_to.Goals as goal
 
 pub loop-i-init : goal.loop-i-init

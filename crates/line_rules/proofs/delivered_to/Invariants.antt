@@ -1,8 +1,5 @@
 use mathlib.Core.Path.{◌≡◌}
 use Prim.Native.Nat.{◌-◌, ◌*◌, ◌≤◌}
-use native.Mathlib.Omega.{arith}
-use borrow.Author.Rules.{rules}
-use Rattle.laws.specs.Sums.{sum_to_none, sum_to_more, sum_to_end}
 use Rattle.line_rules.specs.Tried.{above_one, delivered_to}
 use Rattle.line_rules.proofs.delivered_to.Given as goal
 
@@ -11,4 +8,3 @@ invariant-loop-i l = (l.i ≤ l.n) × (l.sum ≤ l.i * above_one) × (l.sum ≡ 
 
 abbrev pub decreases-loop-i : goal.decreases-loop-i
 decreases-loop-i l = l.n - l.i
-

@@ -1,6 +1,5 @@
 use native.Mathlib.Omega.{arith}
 use borrow.Author.Tests.{ne_eqb, eq-eqb}
-use borrow.Author.Rules.{rules}
 use Rattle.line_rules.specs.Tried as tried
 use Rattle.line_rules.specs.Answers.{spot_below}
 use Rattle.line_rules.proofs.find_pair.Goals as goal

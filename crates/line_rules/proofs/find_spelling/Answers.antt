@@ -1,10 +1,8 @@
-use mathlib.Core.Option.{none}
-use mathlib.Core.Path.{◌≡◌, sym, ap, ◌∙◌}
-use Prim.Native.Nat.{◌-◌, ◌≤◌}
+use mathlib.Core.Path.{sym, ap, ◌∙◌}
 use native.Mathlib.Omega.{arith}
 use borrow.Author.Rules.{rules}
-use Rattle.line_rules.specs.Finds.{find_to_zero, find_to_more, find_to_here, find_to_end}
-use Rattle.line_rules.specs.Spellings.{spelling_to, spot_of}
+use Rattle.line_rules.specs.Finds.{find_to_zero, find_to_more, find_to_here}
+use Rattle.line_rules.specs.Spellings.{spot_of}
 use Rattle.line_rules.proofs.find_spelling.Goals as goal
 
 pub loop-i-init : goal.loop-i-init

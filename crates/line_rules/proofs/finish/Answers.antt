@@ -5,7 +5,6 @@ use lib.Dec.{ltb}
 use borrow.Author.Tests.{eq-eqb, ne_eqb}
 use Rattle.line_rules.specs.Totalled as totalled
 use Rattle.line_rules.specs.Answers.{sum_above, sum_within}
-use borrow.Author.Rules.{rules}
 use Rattle.line_rules.proofs.finish.Goals as goal
 
 pub returns-then-t-wide : goal.returns-then-t-wide

@@ -1,9 +1,6 @@
-use mathlib.Core.Path.{◌≡◌, ◌∙◌}
-use Prim.Native.Nat.{◌-◌, ◌*◌, ◌≤◌}
-use native.Mathlib.Omega.{arith}
+use mathlib.Core.Path.{◌∙◌}
 use borrow.Author.Rules.{rules}
-use Rattle.laws.specs.Sums.{sum_to_none, sum_to_more, sum_to_end}
-use Rattle.line_rules.specs.Tried.{above_one, generated_to}
+use Rattle.laws.specs.Sums.{sum_to_none, sum_to_more}
 use Rattle.line_rules.proofs.generated_by.Goals as goal
 
 pub loop-i-init : goal.loop-i-init

@@ -1,10 +1,6 @@
-use mathlib.Core.Path.{◌≡◌}
-use Prim.Native.Nat.{◌+◌, ◌-◌, ◌^◌, ◌≤◌, ◌<◌}
 use native.Mathlib.Omega.{arith}
-use lib.ListN.{get_or}
 use borrow.Author.Rules.{rules}
-use Rattle.line_rules.specs.ToBase256.{base256_zero, base256_more, base256_end, base256_fits, base256_below}
-use Rattle.line_rules.specs.Spellings.{base256}
+use Rattle.line_rules.specs.ToBase256.{base256_zero, base256_more, base256_fits, base256_below}
 use Rattle.line_rules.proofs.half_of.Goals as goal
 
 pub loop-i-init : goal.loop-i-init

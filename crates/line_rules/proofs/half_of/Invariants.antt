@@ -1,9 +1,6 @@
 use mathlib.Core.Path.{◌≡◌}
 use Prim.Native.Nat.{◌+◌, ◌-◌, ◌^◌, ◌≤◌, ◌<◌}
-use native.Mathlib.Omega.{arith}
 use lib.ListN.{get_or}
-use borrow.Author.Rules.{rules}
-use Rattle.line_rules.specs.ToBase256.{base256_zero, base256_more, base256_end, base256_fits, base256_below}
 use Rattle.line_rules.specs.Spellings.{base256}
 use Rattle.line_rules.proofs.half_of.Given as goal
 
@@ -12,4 +9,3 @@ invariant-loop-i l = (l.i ≤ 8) × (l.half < 256 ^ l.i) × (l.half ≡ base256 
 
 abbrev pub decreases-loop-i : goal.decreases-loop-i
 decreases-loop-i l = 8 - l.i
-

@@ -1,5 +1,4 @@
 use borrow.Author.Tests.{ne_eqb, eq-eqb}
-use borrow.Author.Rules.{rules}
 use Rattle.line_rules.specs.Tried as tried
 use Rattle.line_rules.proofs.take_delivery.Goals as goal
 

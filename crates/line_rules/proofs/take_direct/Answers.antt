@@ -1,7 +1,6 @@
 use mathlib.Core.Path.{refl, sym, ◌∙◌}
 use native.Mathlib.Omega.{arith}
-use borrow.Author.Tests.{le-leb, lt-leb, not-true, not-false}
-use borrow.Author.Rules.{rules}
+use borrow.Author.Tests.{le-leb, lt-leb}
 use Rattle.line_rules.specs.Tried as tried
 use Rattle.line_rules.specs.Pairs.{pair_within}
 use Rattle.line_rules.specs.Answers.{sum_above, sum_within}

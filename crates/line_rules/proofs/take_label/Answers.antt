@@ -1,5 +1,4 @@
 use borrow.Author.Tests.{le-leb, lt-leb}
-use borrow.Author.Rules.{rules}
 use Rattle.line_rules.specs.Tried as tried
 use Rattle.line_rules.proofs.take_label.Goals as goal
 

@@ -2,8 +2,7 @@ use mathlib.Core.Bool.{Bool, true, false}
 use mathlib.Core.List.{List}
 use mathlib.Core.Path.{◌≡◌, sym, ap, ◌∙◌}
 use Prim.Native.Nat.{ℕ, ◌+◌}
-use borrow.Author.Tests.{ne_eqb, eq-eqb, not-true, not-false}
-use borrow.Author.Rules.{rules}
+use borrow.Author.Tests.{ne_eqb, eq-eqb}
 use Rattle.rules.specs.Answers.{verdict_of}
 use Rattle.rules.specs.Units.{levelled}
 use Rattle.rules.specs.declared.Plant.{Plant}
@@ -21,14 +20,17 @@ use Rattle.line_rules.proofs.take_source.Goals as goal
 module _ (n : Counts) (in_range : Bool) (plant : Plant) (spelling : Spelling) (lo hi : List ℕ) (line : ℕ) (l : line ≡ next_line n) (o : n.deliveries + n.directs ≡ 0) where
   told : (v w : Verdict) → v ≡ verdict_of (label_tried line in_range n.sources spelling lo hi) → v ≡ w → verdict_of (label_tried (next_line n) in_range n.sources spelling lo hi) ≡ w
   told v w e is = ap (λ (l : ℕ). verdict_of (label_tried l in_range n.sources spelling lo hi)) (sym l) ∙ sym e ∙ is
+
   by-label : (v : Verdict) (r : Refusal) → v ≡ verdict_of (label_tried line in_range n.sources spelling lo hi) → v ≡ Refused r
       → Refused r ≡ verdict_of (source_tried n in_range plant spelling lo hi)
   unfolding tried.source_tried
   by-label v r e is = rw (eq-eqb _ 0 o, verdict_refused (label_tried (next_line n) in_range n.sources spelling lo hi) r (told v (Refused r) e is))
+
   by-levels : (v : Verdict) → v ≡ verdict_of (label_tried line in_range n.sources spelling lo hi) → v ≡ Accepted → levelled plant ≡ false
       → Refused (Levels line) ≡ verdict_of (source_tried n in_range plant spelling lo hi)
   unfolding tried.source_tried
   by-levels v e is f = rw (eq-eqb _ 0 o, (verdict_accepted (label_tried (next_line n) in_range n.sources spelling lo hi) (told v Accepted e is)).1, f, l)
+
   by_all : (v : Verdict) → v ≡ verdict_of (label_tried line in_range n.sources spelling lo hi) → v ≡ Accepted → levelled plant ≡ true
       → Accepted ≡ verdict_of (source_tried n in_range plant spelling lo hi)
   unfolding tried.source_tried

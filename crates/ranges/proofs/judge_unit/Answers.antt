@@ -1,6 +1,4 @@
 use mathlib.Core.Path.{sym, ◌∙◌}
-use borrow.Author.Tests.{not-true, not-false}
-use borrow.Author.Rules.{rules}
 use Rattle.ranges.specs.UnitByCurve.{judged_by_levels, judged_by_curve, judged_inside}
 use Rattle.ranges.proofs.judge_unit.Goals as goal
 

@@ -1,6 +1,4 @@
 use mathlib.Core.Path.{sym, ◌∙◌}
-use borrow.Author.Tests.{not-true, not-false}
-use borrow.Author.Rules.{rules}
 use Rattle.rules.specs.Lines as lines
 use Rattle.ranges.specs.Inside as tests
 use Rattle.ranges.proofs.losses_in_range.Goals as goal

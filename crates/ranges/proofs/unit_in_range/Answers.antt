@@ -1,6 +1,4 @@
 use mathlib.Core.Path.{sym, ◌∙◌}
-use borrow.Author.Tests.{not-true, not-false}
-use borrow.Author.Rules.{rules}
 use Rattle.ranges.specs.UnitByCurve.{by_curve}
 use Rattle.ranges.proofs.unit_in_range.Goals as goal
 

@@ -1,9 +1,6 @@
 use mathlib.Core.Path.{sym, ◌∙◌}
-use native.Mathlib.Omega.{arith}
 use Rattle.rules.specs.Fields as fields
-use Rattle.read_fields.proofs.Bytes.{byte_inside}
 use Rattle.read_fields.proofs.Numbers.{basis_number}
-use borrow.Author.Rules.{rules}
 use Rattle.read_fields.proofs.basis_at.Goals as goal
 
 pub returns-then-b-eq76 : goal.returns-then-b-eq76

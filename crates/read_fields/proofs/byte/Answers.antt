@@ -3,7 +3,6 @@ use Rattle.rules.specs.Fields as fields
 use Rattle.read_fields.specs.Answers.{step_of}
 use Rattle.read_fields.proofs.Bytes.{byte_missing}
 use Rattle.read_fields.proofs.Tests.{tests}
-use borrow.Author.Rules.{rules}
 use Rattle.read_fields.proofs.byte.Goals as goal
 
 pub returns-then-s-at : goal.returns-then-s-at

@@ -1,14 +1,11 @@
-use Prim.Native.Nat.{◌+◌, ◌<◌, ◌≤◌}
+use Prim.Native.Nat.{◌+◌, ◌≤◌}
 use mathlib.Core.Path.{◌≡◌, ap, sym, ◌∙◌}
 use mathlib.Core.Bool.{true}
 use native.Mathlib.Omega.{arith}
-use lib.ListN.{length, get_or}
-use borrow.Author.Tests.{not-true, not-false}
+use lib.ListN.{get_or}
 use Rattle.rules.specs.Fields.{is_digit}
 use Rattle.roundtrip.specs.Numbers.{digit_from}
-use Rattle.read_fields.proofs.Bytes.{byte_inside}
-use Rattle.read_fields.proofs.Numbers.{run_stop, digit_inside, number_none, number_zeros, number_zero, number_run}
-use borrow.Author.Rules.{rules}
+use Rattle.read_fields.proofs.Numbers.{run_stop, number_none, number_zeros, number_zero, number_run}
 use Rattle.read_fields.proofs.first_digit.Goals as goal
 
 pub returns-then-not-is_digit : goal.returns-then-not-is_digit

@@ -1,12 +1,11 @@
-use Prim.Native.Nat.{◌+◌, ◌-◌}
+use Prim.Native.Nat.{◌+◌}
 use mathlib.Core.Path.{◌≡◌}
 use mathlib.Core.Bool.{false}
 use mathlib.Core.List.{◌∷◌}
 use native.Mathlib.Omega.{arith}
-use lib.ListN.{length, get_or, drop, length-set}
+use lib.ListN.{get_or, drop, length-set}
 use Rattle.rules.specs.Fields.{unescape}
-use Rattle.read_fields.proofs.Characters.{Filled, filled_none, filled_room, filled_more, filled_all, unescape_end, unescape_plain, unescape_cut, unescape_escaped}
-use borrow.Author.Rules.{rules}
+use Rattle.read_fields.proofs.Characters.{filled_room, filled_more, filled_all, unescape_end, unescape_plain, unescape_cut, unescape_escaped}
 use Rattle.read_fields.proofs.label_at.Goals as goal
 
 pub returns-then-part-i : goal.returns-then-part-i

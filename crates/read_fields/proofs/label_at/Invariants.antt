@@ -1,12 +1,7 @@
-use Prim.Native.Nat.{◌+◌, ◌-◌}
+use Prim.Native.Nat.{◌-◌}
 use mathlib.Core.Path.{◌≡◌}
-use mathlib.Core.Bool.{false}
-use mathlib.Core.List.{◌∷◌}
-use native.Mathlib.Omega.{arith}
-use lib.ListN.{length, get_or, drop, length-set}
-use Rattle.rules.specs.Fields.{unescape}
-use Rattle.read_fields.proofs.Characters.{Filled, filled_none, filled_room, filled_more, filled_all, unescape_end, unescape_plain, unescape_cut, unescape_escaped}
-use borrow.Author.Rules.{rules}
+use lib.ListN.{length}
+use Rattle.read_fields.proofs.Characters.{Filled}
 use Rattle.read_fields.proofs.label_at.Given as goal
 
 abbrev pub invariant-loop-i : goal.invariant-loop-i
@@ -14,4 +9,3 @@ invariant-loop-i l = (length l.bytes ≡ 16) × Filled l.part l.bytes l.n l.i
 
 abbrev pub decreases-loop-i : goal.decreases-loop-i
 decreases-loop-i l = length l.part - l.i
-

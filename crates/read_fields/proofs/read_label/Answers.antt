@@ -1,14 +1,10 @@
-use Prim.Native.Nat.{◌+◌, ◌-◌, ◌<◌, ◌≤◌}
+use Prim.Native.Nat.{◌+◌}
 use mathlib.Core.Path.{◌≡◌, ap, sym, ◌∙◌}
-use mathlib.Core.Bool.{false}
 use native.Mathlib.Omega.{arith}
-use lib.ListN.{length, get_or, drop}
-use borrow.Author.Tests.{not-true, not-false}
-use Rattle.rules.specs.Fields.{is_escaped, closing, label_end}
+use lib.ListN.{get_or}
+use Rattle.rules.specs.Fields.{is_escaped}
 use Rattle.read_fields.specs.Answers.{end_of}
-use Rattle.read_fields.proofs.Bytes.{byte_inside}
-use Rattle.read_fields.proofs.Labels.{escaped_inside, label_quoted, label_unquoted, closing_end, quote_closes, escaped_more, escaped_none, character_more, character_none}
-use borrow.Author.Rules.{rules}
+use Rattle.read_fields.proofs.Labels.{label_quoted, label_unquoted, closing_end, quote_closes, escaped_more, escaped_none, character_more, character_none}
 use Rattle.read_fields.proofs.read_label.Goals as goal
 
 pub returns-then-peek-ne34 : goal.returns-then-peek-ne34

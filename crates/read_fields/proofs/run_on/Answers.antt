@@ -1,14 +1,9 @@
 use mathlib.Core.Bool.{true}
-use borrow.Author.Tests.{not-true, not-false}
-use Rattle.roundtrip.specs.Numbers.{digit_from}
-use Prim.Native.Nat.{◌≤◌, ◌-◌}
 use mathlib.Core.Path.{◌≡◌, ap, sym, ◌∙◌}
 use native.Mathlib.Omega.{arith}
-use lib.ListN.{length, get_or, drop, get_or-eq_default}
-use Rattle.rules.specs.Fields.{run, is_digit}
+use lib.ListN.{get_or, get_or-eq_default}
+use Rattle.rules.specs.Fields.{is_digit}
 use Rattle.read_fields.proofs.Numbers.{cut_stop, cut_more}
-use Rattle.read_fields.specs.Answers.{number_field}
-use borrow.Author.Rules.{rules}
 use Rattle.read_fields.proofs.run_on.Goals as goal
 
 pub returns-then-not-is_digit : goal.returns-then-not-is_digit

@@ -9,7 +9,6 @@ use Rattle.rules.specs.Fields.{Field, byte_at, label_end, Place, label_from}
 use Rattle.read_fields.specs.Answers.{label_field}
 use Rattle.read_fields.proofs.Bytes.{step_inside, after_at, after_missing}
 use Rattle.read_fields.proofs.Labels.{part_closed, part_unclosed, part_inside}
-use borrow.Author.Rules.{rules}
 use Rattle.read_fields.proofs.spaced_label.Goals as goal
 
 abbrev label_at : List ℕ → ℕ → Field Place

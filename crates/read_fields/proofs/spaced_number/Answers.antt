@@ -3,7 +3,6 @@ use Rattle.rules.specs.Fields as fields
 use Rattle.rules.specs.Fields.{byte_at, number_at}
 use Rattle.read_fields.specs.Answers.{number_field}
 use Rattle.read_fields.proofs.Bytes.{after_at, after_missing}
-use borrow.Author.Rules.{rules}
 use Rattle.read_fields.proofs.spaced_number.Goals as goal
 
 pub returns-in_default : goal.returns-in_default

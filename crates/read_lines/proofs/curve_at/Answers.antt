@@ -1,4 +1,3 @@
-use borrow.Author.Rules.{rules}
 use Rattle.read_lines.proofs.Chains.{curve_chain}
 use Rattle.read_lines.proofs.curve_at.Goals as goal
 

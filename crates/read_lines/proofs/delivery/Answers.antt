@@ -1,4 +1,3 @@
-use borrow.Author.Rules.{rules}
 use Rattle.read_lines.proofs.Chains.{delivery_chain}
 use Rattle.read_lines.proofs.delivery.Goals as goal
 

@@ -1,4 +1,3 @@
-use borrow.Author.Rules.{rules}
 use Rattle.read_lines.proofs.Chains.{direct_chain}
 use Rattle.read_lines.proofs.direct.Goals as goal
 

@@ -1,4 +1,3 @@
-use borrow.Author.Rules.{rules}
 use Rattle.read_lines.proofs.Chains.{fixed_chain}
 use Rattle.read_lines.proofs.fixed.Goals as goal
 

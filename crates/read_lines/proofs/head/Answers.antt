@@ -1,4 +1,3 @@
-use borrow.Author.Rules.{rules}
 use Rattle.read_lines.proofs.Chains.{head_chain}
 use Rattle.read_lines.proofs.head.Goals as goal
 

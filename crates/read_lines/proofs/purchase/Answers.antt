@@ -1,4 +1,3 @@
-use borrow.Author.Rules.{rules}
 use Rattle.read_lines.proofs.Chains.{purchase_chain}
 use Rattle.read_lines.proofs.purchase.Goals as goal
 

@@ -1,4 +1,3 @@
-use borrow.Author.Rules.{rules}
 use Rattle.read_lines.proofs.Chains.{unit_chain}
 use Rattle.read_lines.proofs.unit.Goals as goal
 

@@ -1,7 +1,5 @@
-use Prim.Native.Nat.{◌-◌, ◌≤◌}
 use native.Mathlib.Omega.{arith}
-use borrow.Author.Rules.{rules}
-use Rattle.sequence.specs.Columns.{Best, sought, best_none, best_more, best_end}
+use Rattle.sequence.specs.Columns.{best_none, best_more}
 use Rattle.sequence.proofs.best_match.Goals as goal
 
 pub loop-i-init : goal.loop-i-init

@@ -1,5 +1,4 @@
 use mathlib.Core.Path.{sym, ◌∙◌}
-use borrow.Author.Rules.{rules}
 use Rattle.sequence.proofs.better.Goals as goal
 
 pub returns-then-greatest : goal.returns-then-greatest

@@ -1,11 +1,5 @@
-use mathlib.Core.List.{List}
-use mathlib.Core.Path.{◌≡◌}
-use Prim.Native.Nat.{◌-◌, ◌≤◌}
 use native.Mathlib.Omega.{arith}
-use borrow.Author.Rules.{rules}
-use Rattle.rules.specs.declared.Delivery.{Delivery}
-use Rattle.sequence.specs.Columns.{Columns}
-use Rattle.sequence.specs.Placings.{placings_to, placings_none, placings_more, placings_end}
+use Rattle.sequence.specs.Placings.{placings_none, placings_more}
 use Rattle.sequence.proofs.key_all.Goals as goal
 
 pub loop-j-init : goal.loop-j-init

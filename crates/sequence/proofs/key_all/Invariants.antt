@@ -1,11 +1,9 @@
 use mathlib.Core.List.{List}
 use mathlib.Core.Path.{◌≡◌}
 use Prim.Native.Nat.{◌-◌, ◌≤◌}
-use native.Mathlib.Omega.{arith}
-use borrow.Author.Rules.{rules}
 use Rattle.rules.specs.declared.Delivery.{Delivery}
 use Rattle.sequence.specs.Columns.{Columns}
-use Rattle.sequence.specs.Placings.{placings_to, placings_none, placings_more, placings_end}
+use Rattle.sequence.specs.Placings.{placings_to}
 use Rattle.sequence.proofs.key_all.Given as goal
 
 abbrev pub invariant-loop-j : goal.invariant-loop-j
@@ -13,4 +11,3 @@ invariant-loop-j l = (l.j ≤ l.n) × ((ts : List Delivery) → Columns ts l.n l
 
 abbrev pub decreases-loop-j : goal.decreases-loop-j
 decreases-loop-j l = l.n - l.j
-

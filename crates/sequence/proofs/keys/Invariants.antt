@@ -1,7 +1,5 @@
 use Prim.Native.Nat.{◌-◌, ◌≤◌}
-use native.Mathlib.Omega.{arith}
-use borrow.Author.Rules.{rules}
-use Rattle.sequence.specs.Columns.{Columns, columns_none, columns_less, columns_more, columns_ranged}
+use Rattle.sequence.specs.Columns.{Columns}
 use Rattle.sequence.proofs.keys.Given as goal
 
 abbrev pub invariant-loop-i : goal.invariant-loop-i
@@ -9,4 +7,3 @@ invariant-loop-i l = (l.i ≤ l.n) × Columns l.ts l.i l.kinds l.blocks l.own
 
 abbrev pub decreases-loop-i : goal.decreases-loop-i
 decreases-loop-i l = l.n - l.i
-

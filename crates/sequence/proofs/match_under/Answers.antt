@@ -1,6 +1,4 @@
-use native.Mathlib.Omega.{arith}
-use borrow.Author.Rules.{rules}
-use Rattle.sequence.specs.RuleByRule.{under_skipped, under_block}
+use Rattle.sequence.specs.RuleByRule.{under_skipped}
 use Rattle.sequence.proofs.match_under.Goals as goal
 
 pub returns-then-block-le1 : goal.returns-then-block-le1

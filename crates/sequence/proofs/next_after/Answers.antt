@@ -1,7 +1,5 @@
-use Prim.Native.Nat.{◌-◌, ◌≤◌}
 use native.Mathlib.Omega.{arith}
-use borrow.Author.Rules.{rules}
-use Rattle.sequence.specs.NextKey.{Next, next_start, next_more, next_end}
+use Rattle.sequence.specs.NextKey.{next_start, next_more}
 use Rattle.sequence.proofs.next_after.Goals as goal
 
 pub loop-j-init : goal.loop-j-init

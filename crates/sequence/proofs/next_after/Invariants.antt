@@ -1,7 +1,5 @@
 use Prim.Native.Nat.{◌-◌, ◌≤◌}
-use native.Mathlib.Omega.{arith}
-use borrow.Author.Rules.{rules}
-use Rattle.sequence.specs.NextKey.{Next, next_start, next_more, next_end}
+use Rattle.sequence.specs.NextKey.{Next}
 use Rattle.sequence.proofs.next_after.Given as goal
 
 abbrev pub invariant-loop-j : goal.invariant-loop-j
@@ -9,4 +7,3 @@ invariant-loop-j l = (l.j ≤ l.n) × Next l.keys l.j l.x l.best
 
 abbrev pub decreases-loop-j : goal.decreases-loop-j
 decreases-loop-j l = l.n - l.j
-

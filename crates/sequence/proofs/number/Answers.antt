@@ -1,5 +1,4 @@
 use mathlib.Core.Path.{sym, ◌∙◌}
-use borrow.Author.Rules.{rules}
 use Rattle.sequence.specs.RuleByRule.{number_placed, number_given}
 use Rattle.sequence.proofs.number.Goals as goal
 

@@ -1,9 +1,6 @@
 use mathlib.Core.Path.{sym, ◌∙◌}
-use native.Mathlib.Omega.{arith}
-use borrow.Author.Rules.{rules}
-use borrow.Author.Tests.{not-true, not-false}
 use Rattle.rules.specs.Hour.{no_number}
-use Rattle.sequence.specs.Columns.{no_match, match_steps}
+use Rattle.sequence.specs.Columns.{no_match}
 use Rattle.sequence.specs.RuleByRule.{SameBlock, NextBlock, BlockUnder, SameType, Anything, place_a, place_b, place_c, place_d, place_e, place_none}
 use Rattle.sequence.proofs.place.Goals as goal
 

@@ -1,4 +1,3 @@
-use borrow.Author.Rules.{rules}
 use Rattle.rules.specs.Record.{source_at, delivery_at, direct_at, source_line, delivery_line, direct_line, head_line}
 use Rattle.write_fields.specs.Inked.{inked_then, room_first, room_after}
 use Rattle.write_deck.specs.Lines.{front_line, front_lines}

@@ -1,4 +1,3 @@
-use borrow.Author.Rules.{rules}
 use mathlib.Core.List.{[], ◌∷◌}
 use Rattle.rules.specs.Fields.{basis_text}
 use Rattle.rules.specs.Record.{chars}

@@ -1,6 +1,5 @@
-use borrow.Author.Rules.{rules}
 use Rattle.rules.specs.Record.{chars}
-use Rattle.write_fields.specs.Inked.{inked_then, room_first, room_after, front_byte}
+use Rattle.write_fields.specs.Inked.{room_first, room_after}
 use Rattle.write_deck.specs.Lines.{front_name, front_numbers}
 use Rattle.write_deck.proofs.put_entry.Goals as goal
 

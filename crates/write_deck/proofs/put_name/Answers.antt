@@ -1,5 +1,4 @@
-use borrow.Author.Rules.{rules}
-use Rattle.write_fields.specs.Inked.{inked_then, room_first, room_after, front_byte}
+use Rattle.write_fields.specs.Inked.{inked_then}
 use Rattle.write_deck.proofs.put_name.Goals as goal
 
 pub returns : goal.returns

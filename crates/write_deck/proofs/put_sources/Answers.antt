@@ -1,10 +1,8 @@
 use borrow.Author.Rules.{rules}
-use Prim.Native.Nat.{◌≤◌, ◌-◌}
-use mathlib.Core.Path.{refl}
 use native.Mathlib.Omega.{arith}
 use Rattle.rules.specs.Record.{source_at, source_line}
 use Rattle.roundtrip.specs.GivenHour.{valid_given}
-use Rattle.write_fields.specs.Inked.{Inked, up_to, inked_none, inked_more, inked_all, room_next}
+use Rattle.write_fields.specs.Inked.{inked_none, inked_more, room_next}
 use Rattle.write_deck.specs.Lines.{front_line}
 use Rattle.write_deck.specs.Deck.{source_text}
 use Rattle.write_deck.proofs.put_sources.Goals as goal

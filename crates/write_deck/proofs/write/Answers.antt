@@ -1,7 +1,5 @@
 use mathlib.Core.Path.{sym, ◌∙◌}
 use lib.ListN.{length}
-use borrow.Author.Tests.{not-true, not-false}
-use borrow.Author.Rules.{rules}
 use Rattle.write_deck.specs.Verdict.{writing_refused}
 use Rattle.write_deck.proofs.write.Goals as goal
 

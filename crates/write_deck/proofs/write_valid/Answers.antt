@@ -1,7 +1,4 @@
-use borrow.Author.Rules.{rules}
-use mathlib.Core.Path.{ap}
 use native.Mathlib.Omega.{arith}
-use lib.ListN.{length}
 use Rattle.rules.specs.Writing.{deck_text}
 use Rattle.roundtrip.specs.DeckFits.{valid_at_most}
 use Rattle.write_deck.specs.Verdict.{first_bytes, wrote_short, wrote_fits}

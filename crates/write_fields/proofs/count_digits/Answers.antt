@@ -1,10 +1,7 @@
-use borrow.Author.Rules.{rules}
-use mathlib.Core.Path.{◌≡◌, ap, ◌∙◌}
-use Prim.Native.Nat.{◌+◌, ◌-◌, ◌*◌, ◌≤◌}
+use mathlib.Core.Path.{ap, ◌∙◌}
+use Prim.Native.Nat.{◌*◌}
 use native.Mathlib.Omega.{arith}
-use lib.ListN.{length}
-use Rattle.rules.specs.Fields.{digits}
-use Rattle.write_fields.specs.Lengths.{tens, tens_none, tens_more, digits_few, digits_some, digits_over, digits_under}
+use Rattle.write_fields.specs.Lengths.{tens_none, tens_more, digits_few, digits_some, digits_over, digits_under}
 use Rattle.write_fields.proofs.count_digits.Goals as goal
 
 pub loop-power-init : goal.loop-power-init

@@ -1,10 +1,8 @@
-use borrow.Author.Rules.{rules}
-use mathlib.Core.Path.{◌≡◌, ap, ◌∙◌}
-use Prim.Native.Nat.{◌+◌, ◌-◌, ◌*◌, ◌≤◌}
-use native.Mathlib.Omega.{arith}
+use mathlib.Core.Path.{◌≡◌}
+use Prim.Native.Nat.{◌+◌, ◌-◌, ◌≤◌}
 use lib.ListN.{length}
 use Rattle.rules.specs.Fields.{digits}
-use Rattle.write_fields.specs.Lengths.{tens, tens_none, tens_more, digits_few, digits_some, digits_over, digits_under}
+use Rattle.write_fields.specs.Lengths.{tens}
 use Rattle.write_fields.proofs.count_digits.Given as goal
 
 abbrev pub invariant-loop-power : goal.invariant-loop-power
@@ -12,4 +10,3 @@ invariant-loop-power l = (l.power ≡ tens l.n) × (l.n + 1 ≤ length (digits l
 
 abbrev pub decreases-loop-power : goal.decreases-loop-power
 decreases-loop-power l = 20 - l.n
-

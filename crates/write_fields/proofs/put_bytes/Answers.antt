@@ -1,10 +1,9 @@
 use borrow.Author.Rules.{rules}
 use mathlib.Core.List.{[]}
-use Prim.Native.Nat.{◌+◌, ◌-◌, ◌≤◌}
+use Prim.Native.Nat.{◌+◌}
 use native.Mathlib.Omega.{arith}
-use lib.ListN.{length}
 use Rattle.write_fields.specs.Inked.{room_as, room_first}
-use Rattle.write_fields.specs.Texts.{Copied, copied_none, copied_more, copied_all, copied_room, front_eight, from_eight}
+use Rattle.write_fields.specs.Texts.{copied_none, copied_more, copied_room, front_eight, from_eight}
 use Rattle.write_fields.proofs.put_bytes.Goals as goal
 
 pub loop-i-init : goal.loop-i-init

@@ -1,12 +1,11 @@
 use borrow.Author.Rules.{rules}
-use Prim.Native.Nat.{◌≤◌, ◌-◌}
 use mathlib.Core.Path.{◌≡◌}
 use mathlib.Core.List.{[], ◌∷◌}
 use native.Mathlib.Omega.{arith}
 use lib.ListN.{length, get_or}
 use Rattle.rules.specs.Fields.{escape}
 use Rattle.rules.specs.Record.{chars}
-use Rattle.write_fields.specs.Inked.{Inked, up_to, inked_none, inked_more, inked_all, room_next, room_as, front_list}
+use Rattle.write_fields.specs.Inked.{inked_none, inked_more, inked_all, room_next, room_as, front_list}
 use Rattle.write_fields.specs.Texts.{character_at, escape_all}
 use Rattle.write_fields.proofs.put_escaped.Goals as goal
 

@@ -1,9 +1,7 @@
-use borrow.Author.Rules.{rules}
 use mathlib.Core.List.{[]}
-use Prim.Native.Nat.{◌+◌, ◌/◌, ◌%◌}
 use native.Mathlib.Omega.{arith}
 use Rattle.write_fields.specs.Inked.{inked_as, inked_then, room_as, room_first, room_after, front_byte, front_two}
-use Rattle.write_fields.specs.Texts.{two_digits, number_one, number_two, number_three, number_four}
+use Rattle.write_fields.specs.Texts.{number_one, number_two, number_three, number_four}
 use Rattle.write_fields.proofs.put_few.Goals as goal
 
 pub put_byte-requires : goal.put_byte-requires

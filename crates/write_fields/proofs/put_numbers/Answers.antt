@@ -1,9 +1,7 @@
 use borrow.Author.Rules.{rules}
-use Prim.Native.Nat.{◌≤◌, ◌-◌}
-use mathlib.Core.Path.{refl}
 use native.Mathlib.Omega.{arith}
 use lib.ListN.{length, get_or}
-use Rattle.write_fields.specs.Inked.{Inked, up_to, inked_none, inked_more, inked_all, room_next}
+use Rattle.write_fields.specs.Inked.{inked_none, inked_more, room_next}
 use Rattle.write_fields.specs.Texts.{spaced_at, front_spaced}
 use Rattle.write_fields.proofs.put_numbers.Goals as goal
 

@@ -1,10 +1,7 @@
-use borrow.Author.Rules.{rules}
 use Prim.Native.Nat.{◌≤◌, ◌-◌}
-use mathlib.Core.Path.{refl}
-use native.Mathlib.Omega.{arith}
-use lib.ListN.{length, get_or}
-use Rattle.write_fields.specs.Inked.{Inked, up_to, inked_none, inked_more, inked_all, room_next}
-use Rattle.write_fields.specs.Texts.{spaced_at, front_spaced}
+use lib.ListN.{length}
+use Rattle.write_fields.specs.Inked.{Inked, up_to}
+use Rattle.write_fields.specs.Texts.{spaced_at}
 use Rattle.write_fields.proofs.put_numbers.Given as goal
 
 abbrev pub invariant-loop-i : goal.invariant-loop-i
@@ -12,4 +9,3 @@ invariant-loop-i l = (l.i ≤ length l.vs) × Inked l.initial.buf l.at l.buf l.p
 
 abbrev pub decreases-loop-i : goal.decreases-loop-i
 decreases-loop-i l = length l.vs - l.i
-

@@ -1,5 +1,4 @@
-use borrow.Author.Rules.{rules}
-use Rattle.write_fields.specs.Inked.{inked_then, room_after}
+use Rattle.write_fields.specs.Inked.{inked_then}
 use Rattle.write_fields.proofs.put_two.Goals as goal
 
 pub returns : goal.returns

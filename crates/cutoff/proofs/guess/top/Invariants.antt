@@ -1,4 +1,4 @@
-use Rattle.std.proofs.Common.{◌-◌, ◌≤◌, rules}
+use Rattle.std.proofs.Common.{◌-◌, ◌≤◌}
 use Rattle.cutoff.proofs.guess.top.Given as goal
 
 abbrev pub invariant-loop-i : goal.invariant-loop-i
@@ -6,4 +6,3 @@ invariant-loop-i l = l.i ≤ l.n
 
 abbrev pub decreases-loop-i : goal.decreases-loop-i
 decreases-loop-i l = l.n - l.i
-

@@ -4,7 +4,7 @@ use Rattle.std.specs.Int.{w64}
 use Rattle.std.proofs.Common.{SFits}
 use Rattle.balance.specs.ValidHour.{valid_balances, valid_small}
 use Rattle.balance.specs.AnswerCells.{cell_at}
-use Rattle.balance.specs.CellsFit.{answer_fits}
+use Rattle.balance.proofs.CellsFit.{answer_fits}
 use Rattle.rules.specs.Hour.{answer}
 use Rattle.rules.specs.Refusals.{accepted}
 use Rattle.rules.specs.Writing.{valid}

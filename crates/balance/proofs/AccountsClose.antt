@@ -2,7 +2,8 @@
 -- make up W(g) as it was before any direct allocation: of every valid hour record, over the answer's cells.
 use Rattle.std.specs.Prelude.{true, List, ◌≡◌, ℕ, ◌<◌, ℤ}
 use Rattle.balance.specs.ValidHour.{valid_balances}
-use Rattle.balance.specs.Balance.{Balances, answer_balances}
+use Rattle.balance.specs.Balance.{Balances}
+use Rattle.balance.proofs.Balance.{answer_balances}
 use Rattle.rules.specs.Hour.{answer}
 use Rattle.rules.specs.Refusals.{accepted}
 use Rattle.rules.specs.Writing.{valid}

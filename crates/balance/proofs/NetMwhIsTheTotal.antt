@@ -1,9 +1,9 @@
 -- "A group's net MWh equals its total": of every valid hour record, over the answer's cells of the group of any delivery.
-use Rattle.std.specs.Prelude.{true, List, ◌≡◌, ℕ, ◌+◌, ◌<◌, ℤ, pos, ◌+ℤ◌}
+use Rattle.std.specs.Prelude.{true, List, ◌≡◌, ℕ, ◌<◌, ℤ, pos, ◌+ℤ◌}
 use Rattle.std.proofs.Common.{arith}
 use Rattle.balance.specs.ValidHour.{valid_balances}
 use Rattle.balance.specs.AnswerCells.{pair_cell}
-use Rattle.balance.specs.NetIsTotal.{answer_net}
+use Rattle.balance.proofs.NetIsTotal.{answer_net}
 use Rattle.laws.specs.Keys.{key_itself}
 use Rattle.laws.specs.Signed.{sumℤ}
 use Rattle.laws.specs.Sums.{sum_to_part}

@@ -1,0 +1,10 @@
+pub mod RefusedExactly
+pub mod AnswerCells
+pub mod Balance
+pub mod AccountsClose
+pub mod NetMwhIsTheTotal
+pub mod EveryCellFits
+pub mod NetIsTotal
+pub mod TakenAndLeft
+pub mod HourBalances
+pub mod CellsFit

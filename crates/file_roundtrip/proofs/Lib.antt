@@ -1,0 +1,4 @@
+pub mod QuotedLabels
+pub mod Records
+pub mod RecordsInTurn
+pub mod FileRoundTrip

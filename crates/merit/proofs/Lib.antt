@@ -1,0 +1,3 @@
+pub mod LevelNeverBelowB
+pub mod PricesRise
+pub mod PlainIsSettled
