@@ -10,7 +10,7 @@ use mir.Val.{SFits}
 use Rattle.laws.specs.Answers.{written_count}
 use Rattle.balance.specs.AnswerCells.{cell_at}
 use Rattle.balance.specs.Balance.{Balances}
-use Rattle.outcomes.specs.AccountsCloseOverTheCells.{accounts_close_over_the_cells, every_written_cell_fits}
+use Rattle.outcomes.proofs.AccountsCloseOverTheCells.{accounts_close_over_the_cells, every_written_cell_fits}
 use Rattle.rules.specs.Answers.{written_of}
 use Rattle.rules.specs.declared.Written.TheVariants.{Count}
 use Rattle.rules.specs.Calls.{reconstruction, leaves}

@@ -14,7 +14,8 @@ use Rattle.rules.specs.Writing.{deck_text}
 use Rattle.rules.specs.declared.Written.{Written}
 use Rattle.rules.specs.declared.Written.TheVariants.{Count}
 use Rattle.laws.specs.Answers.{written_count}
-use Rattle.hour_files.specs.HourFiles.{deck_file_prints, hour_file_reports}
+use Rattle.hour_files.specs.HourFiles.{deck_file_prints}
+use Rattle.hour_files.proofs.HourFiles.{hour_file_reports}
 use Rattle.barleyhood.proofs.OneOutcome.{both}
 use Rattle.barleyhood.proofs.deck_spreadsheet.Reads as deck_spreadsheet_call
 use Rattle.barleyhood.proofs.report.Reads as report_call

@@ -4,7 +4,6 @@
 --     deck_has_file           the same of the hour that a deck gives
 --     deck_read_back
 --     hour_file_prints        the file that is written of an hour, read again, prints that hour's lines
---     hour_file_reports       which are the report of the hour's deck
 --     deck_file_lines         the file that is written of a deck is read as the lines of the deck's report
 --     deck_file_prints        and printed it is that report
 --     same_file_same_lines    two hours that have the same file have the same lines
@@ -80,7 +79,7 @@ deck_file_lines s size bytes e =
     f.lines ∙ ap accepted (sym (report_lines_lem s b.mid f.progress b.first f.run))
 
 -- an hour's file is that of its deck
-hour_deck : (h : Hour) (size : ℕ) (bytes : List ℕ) → spreadsheet h size ≡ accepted bytes → deck_spreadsheet (deck_text h) size ≡ accepted bytes
+pub hour_deck : (h : Hour) (size : ℕ) (bytes : List ℕ) → spreadsheet h size ≡ accepted bytes → deck_spreadsheet (deck_text h) size ≡ accepted bytes
 unfolding calls.deck_spreadsheet
 hour_deck h size bytes e = let q = spreadsheet_valid h size bytes e in rw (valid_reads_back h q.0) q.1
 
@@ -99,9 +98,6 @@ hour_file_prints h p size bytes run e n =
 pub deck_file_prints : (s : List ℕ) (size : ℕ) (bytes : List ℕ) → deck_spreadsheet s size ≡ accepted bytes → (n : ℕ) → spreadsheet_lines bytes n ≡ into n (report s)
 unfolding reports.report
 deck_file_prints s size bytes e n = lines_printed bytes (report_lines s) n (deck_file_lines s size bytes e)
-
-pub hour_file_reports : (h : Hour) (size : ℕ) (bytes : List ℕ) → spreadsheet h size ≡ accepted bytes → (n : ℕ) → spreadsheet_lines bytes n ≡ into n (report (deck_text h))
-hour_file_reports h size bytes e = deck_file_prints (deck_text h) size bytes (hour_deck h size bytes e)
 
 -- The same file.
 

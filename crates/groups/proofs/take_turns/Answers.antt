@@ -1,3 +1,5 @@
+-- The sources passed are opened and have their lines; between turns all keys from x up are done and the lines are those of the states;
+-- in a turn the D lines passed are taken, then the sources passed are moved, and the lead's row has where each source went.
 use mathlib.Core.List.{map}
 use mathlib.Core.Path.{◌≡◌, refl, sym, ap, ◌∙◌}
 use Prim.Native.Nat.{◌≤◌, ◌<◌}
