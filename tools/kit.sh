@@ -183,14 +183,15 @@ words_of() { # NAME
     done
 }
 
-# A toolchain in the workplace whose clang compiles a module as it is wanted here: some functions always in their callers, and for any processor of
-# x86-64 or, with -march=native, for this one. It leaves the object to the kit, or puts a program's at the path given and then fails, which ends the kit's try.
+# A toolchain in a folder `room` whose clang compiles a module as it is wanted here: some functions always in their callers, and for any processor of x86-64
+# or, with -march=native, for this one. It leaves the object to the kit, or puts a program's at the path given and then fails, which ends the kit's try.
+# The folder has links, which rt refuses anywhere in the repository.
 compiling() { # [OPTION [OBJECT]]
     local t
-    mkdir "$work/bin" && ln -s "$kit_tools/lib" "$work/lib" || fail "the workplace cannot be written"
-    for t in "$kit_tools"/bin/*; do ln -s "$t" "$work/bin/"; done
-    rm "$work/bin/clang"
-    cat >"$work/bin/clang" <<END
+    room=$(mktemp -d) && mkdir "$room/bin" && ln -s "$kit_tools/lib" "$room/lib" || fail "no folder for temporary files can be made"
+    for t in "$kit_tools"/bin/*; do ln -s "$t" "$room/bin/"; done
+    rm "$room/bin/clang"
+    cat >"$room/bin/clang" <<END
 #!/usr/bin/env bash
 # The module that is compiled is module.bc in the folder at hand: proved code at -O3, or code to be tried, with the checks of memory that are left out here.
 case " \$* " in
@@ -212,7 +213,7 @@ for w; do
 done
 "$kit_tools/bin/clang" "\${words[@]}" ${2:+&& touch "$2.made"; exit 1}
 END
-    chmod +x "$work/bin/clang"
+    chmod +x "$room/bin/clang"
 }
 
 # Functions that are compiled into their callers, whatever their size: those that read or write one field, record or line, try one
