@@ -161,19 +161,18 @@ proved() { # NAME..
 }
 in_crate() { # NAME
     local words
-    if is_static "$1"; then
-        mapfile -t words < <(words_of "$1")
-        TMPDIR=$room exec "$home/bin/rattle" check "${words[@]}"
-    fi
     # A library is built as well, for the crates above it.
-    cd "crates/$1" && TMPDIR=$room exec rt "$(if [ -f src/lib.rt ]; then echo lib; else echo check; fi)"
+    if is_library "$1"; then cd "crates/$1" && TMPDIR=$room exec rt lib; fi
+    mapfile -t words < <(words_of "$1")
+    TMPDIR=$room exec "$home/bin/rattle" check "${words[@]}"
 }
 
-# How a static library crate is handed to the prover, over the libraries below it as they are built: a word a line. rt would build those that
+# How a program or a static library is handed to the prover, over the libraries below it as they are built: a word a line. rt would build those that
 # `rt ci` built again, from nothing.
 words_of() { # NAME
-    local d
-    printf '%s\n' --crate-name "$1" "crates/$1/src/lib.rt" --crate-type staticlib --jobs 2 --extern "std=$home/rlibs/std.rlib" -L "dependency=$home/rlibs" \
+    local d root=crates/$1/src/main.rt
+    if is_static "$1"; then root=crates/$1/src/lib.rt && printf '%s\n' --crate-type staticlib; fi
+    printf '%s\n' --crate-name "$1" "$root" --jobs 2 --extern "std=$home/rlibs/std.rlib" -L "dependency=$home/rlibs" \
         --antt-project "$home/rattle/logic/antt-project.json" --logic-built "$home/logic_built"
     for d in $(named_by "$1"); do
         if [ -d "crates/$d" ]; then printf '%s\n' --extern "$d=crates/$d/out/rlib/$d.rlib"; else printf '%s\n' --extern "$d=$home/rlibs/$d.rlib"; fi
@@ -183,14 +182,15 @@ words_of() { # NAME
     done
 }
 
-# A toolchain in the workplace whose clang compiles a module as it is wanted here: some functions always in their callers, and for any processor of
-# x86-64 or, with -march=native, for this one. It leaves the object to the kit, or puts a program's at the path given and then fails, which ends the kit's try.
+# A toolchain in a folder `room` whose clang compiles a module as it is wanted here: some functions always in their callers, and for any processor of x86-64
+# or, with -march=native, for this one. It leaves the object to the kit, or puts a program's at the path given and then fails, which ends the kit's try.
+# The folder has links, which rt refuses anywhere in the repository.
 compiling() { # [OPTION [OBJECT]]
     local t
-    mkdir "$work/bin" && ln -s "$kit_tools/lib" "$work/lib" || fail "the workplace cannot be written"
-    for t in "$kit_tools"/bin/*; do ln -s "$t" "$work/bin/"; done
-    rm "$work/bin/clang"
-    cat >"$work/bin/clang" <<END
+    room=$(mktemp -d) && mkdir "$room/bin" && ln -s "$kit_tools/lib" "$room/lib" || fail "no folder for temporary files can be made"
+    for t in "$kit_tools"/bin/*; do ln -s "$t" "$room/bin/"; done
+    rm "$room/bin/clang"
+    cat >"$room/bin/clang" <<END
 #!/usr/bin/env bash
 # The module that is compiled is module.bc in the folder at hand: proved code at -O3, or code to be tried, with the checks of memory that are left out here.
 case " \$* " in
@@ -212,7 +212,14 @@ for w; do
 done
 "$kit_tools/bin/clang" "\${words[@]}" ${2:+&& touch "$2.made"; exit 1}
 END
-    chmod +x "$work/bin/clang"
+    chmod +x "$room/bin/clang"
+}
+
+# A program's object as an executable.
+linked() { # OBJECT FILE
+    grouped "$home/bin/rattle-link" --target x86_64-unknown-linux-gnu --toolchain "$kit_tools" -o "$2" "$1" "$home/c/libos_c.a" "$home/c/liblibc_c.a" >"$work/log" 2>&1 && return
+    tail -n 5 "$work/log" >&2
+    return 1
 }
 
 # Functions that are compiled into their callers, whatever their size: those that read or write one field, record or line, try one
