@@ -14,7 +14,7 @@ use Rattle.merit.specs.LevelNeverBelowB.{state_at}
 use Rattle.rules.specs.Group.{Amount, Item, direct_mwh, incremental_mwh, amount}
 use Rattle.rules.specs.Hour.{Cells, Progress, keys, key_at, same_key, cells_of, turns, groups, opening, member, counted, scheduled, share, shared, reconstructed, answer}
 use Rattle.rules.specs.Refusals.{accepted}
-use Rattle.rules.specs.Words.{if◌then◌else◌}
+use Rattle.rules.specs.Words.{when◌then◌else◌}
 use Rattle.rules.specs.declared.Hour.{Hour}
 use Rattle.rules.specs.declared.Key.{Key}
 use Rattle.rules.specs.declared.Running.{Running}
@@ -24,7 +24,7 @@ use Rattle.balance.specs.NetIsTotal.{group_total}
 
 -- the MWh of group x's members from all sources
 abbrev group_mwh : Hour → List Key → Key → Cells → ℤ
-group_mwh h ks x cell = sumℤ (λ i. sumℤ (λ j. if member ks x j then cell j i direct_mwh +ℤ cell j i incremental_mwh else pos 0) h.ndeliveries) h.nsources
+group_mwh h ks x cell = sumℤ (λ i. sumℤ (λ j. when member ks x j then cell j i direct_mwh +ℤ cell j i incremental_mwh else pos 0) h.ndeliveries) h.nsources
 
 module _ (h : Hour) (ks : List Key) where
   -- the groups that are not to come any more have their totals
@@ -47,11 +47,11 @@ module _ (h : Hour) (ks : List Key) where
       cell : Cells
       cell = shared h ks x p.states ts g.us p.cells
 
-      one : (i j : ℕ) (y : Bool) → member ks x j ≡ y → (if y then cell j i direct_mwh +ℤ cell j i incremental_mwh else pos 0) ≡ share h ks x (part i direct_mwh) j +ℤ share h ks x (part i incremental_mwh) j
+      one : (i j : ℕ) (y : Bool) → member ks x j ≡ y → (when y then cell j i direct_mwh +ℤ cell j i incremental_mwh else pos 0) ≡ share h ks x (part i direct_mwh) j +ℤ share h ks x (part i incremental_mwh) j
       one i j true e = rw (shared_members h ks x p.states ts g.us p.cells j i direct_mwh e, shared_members h ks x p.states ts g.us p.cells j i incremental_mwh e)
       one i j false e = rw (share_none h ks x (part i direct_mwh) j e, share_none h ks x (part i incremental_mwh) j e)
 
-      row : (i : ℕ) → sumℤ (λ j. if member ks x j then cell j i direct_mwh +ℤ cell j i incremental_mwh else pos 0) h.ndeliveries ≡ value (part i direct_mwh) +ℤ value (part i incremental_mwh)
+      row : (i : ℕ) → sumℤ (λ j. when member ks x j then cell j i direct_mwh +ℤ cell j i incremental_mwh else pos 0) h.ndeliveries ≡ value (part i direct_mwh) +ℤ value (part i incremental_mwh)
       row i =
           sumℤ_same _ (λ j. share h ks x (part i direct_mwh) j +ℤ share h ks x (part i incremental_mwh) j) h.ndeliveries (λ j l. one i j (member ks x j) refl) ∙
           sumℤ_add (share h ks x (part i direct_mwh)) (share h ks x (part i incremental_mwh)) h.ndeliveries ∙
@@ -60,10 +60,10 @@ module _ (h : Hour) (ks : List Key) where
   -- a group whose cells are kept
   kept_net : (y : Key) (cell cell' : Cells) → ((j i : ℕ) (item : Item) → member ks y j ≡ true → cell' j i item ≡ cell j i item) → group_mwh h ks y cell' ≡ group_mwh h ks y cell
   kept_net y cell cell' same =
-      sumℤ_same _ _ h.nsources (λ i l. sumℤ_same (λ j. if member ks y j then cell' j i direct_mwh +ℤ cell' j i incremental_mwh else pos 0) (λ j. if member ks y j then cell j i direct_mwh +ℤ cell j i incremental_mwh else pos 0) h.ndeliveries
+      sumℤ_same _ _ h.nsources (λ i l. sumℤ_same (λ j. when member ks y j then cell' j i direct_mwh +ℤ cell' j i incremental_mwh else pos 0) (λ j. when member ks y j then cell j i direct_mwh +ℤ cell j i incremental_mwh else pos 0) h.ndeliveries
       (λ j k. one i j (member ks y j) refl))
     where
-      one : (i j : ℕ) (z : Bool) → member ks y j ≡ z → (if z then cell' j i direct_mwh +ℤ cell' j i incremental_mwh else pos 0) ≡ (if z then cell j i direct_mwh +ℤ cell j i incremental_mwh else pos 0)
+      one : (i j : ℕ) (z : Bool) → member ks y j ≡ z → (when z then cell' j i direct_mwh +ℤ cell' j i incremental_mwh else pos 0) ≡ (when z then cell j i direct_mwh +ℤ cell j i incremental_mwh else pos 0)
       one i j true e = rw (same j i direct_mwh e, same j i incremental_mwh e)
       one i j false e = refl
 
@@ -88,14 +88,14 @@ module _ (h : Hour) (ks : List Key) where
 
 -- each group's cells add up to its total
 pub answer_net : (h : Hour) → Given h → (xs : List ℤ) → answer h ≡ accepted xs → (x : Key) → 0 < counted (keys h) x h.ndeliveries →
-    sumℤ (λ i. sumℤ (λ j. if member (keys h) x j then pair_cell h xs j i direct_mwh +ℤ pair_cell h xs j i incremental_mwh else pos 0) h.ndeliveries) h.nsources ≡ pos (scheduled h (keys h) x h.ndeliveries)
+    sumℤ (λ i. sumℤ (λ j. when member (keys h) x j then pair_cell h xs j i direct_mwh +ℤ pair_cell h xs j i incremental_mwh else pos 0) h.ndeliveries) h.nsources ≡ pos (scheduled h (keys h) x h.ndeliveries)
 unfolding reconstructed
 answer_net h g xs e x c =
     let a = answer_cells h xs e in
     let p = a.progress in
     rw a.is
     (sumℤ_same _ _ h.nsources (λ i m. sumℤ_same
-    (λ j. if member (keys h) x j then pair_cell h (cells_of h p) j i direct_mwh +ℤ pair_cell h (cells_of h p) j i incremental_mwh else pos 0)
-    (λ j. if member (keys h) x j then p.cells j i direct_mwh +ℤ p.cells j i incremental_mwh else pos 0) h.ndeliveries
+    (λ j. when member (keys h) x j then pair_cell h (cells_of h p) j i direct_mwh +ℤ pair_cell h (cells_of h p) j i incremental_mwh else pos 0)
+    (λ j. when member (keys h) x j then p.cells j i direct_mwh +ℤ p.cells j i incremental_mwh else pos 0) h.ndeliveries
     (λ j k. rw (pair_cell_lem h p j i direct_mwh k m, pair_cell_lem h p j i incremental_mwh k m))) ∙
     groups_nets h (keys h) g (turns (keys h)) (hour_turns h) (λ y z. every_group_has_its_turn h g.long y z) p a.run x refl c)

@@ -9,7 +9,7 @@ use Rattle.merit.specs.NumbersStaySmall.{PlantSmall, Small, level_small, changed
 use Rattle.merit.specs.RemainderMoves.{Shift, shift_moved, remainder_moves}
 use Rattle.rules.specs.Group.{level, Amount, signed, Item, direct_mwh, incremental_mwh, direct_cost, incremental_cost, amount, OpenItem, open_mwh, open_grains, open_amount}
 use Rattle.rules.specs.Hour.{member, share, Cells, Progress, shared, opening}
-use Rattle.rules.specs.Words.{if◌then◌else◌}
+use Rattle.rules.specs.Words.{when◌then◌else◌}
 use Rattle.rules.specs.declared.Hour.{Hour}
 use Rattle.rules.specs.declared.Key.{Key}
 use Rattle.rules.specs.declared.Running.{Running}
@@ -52,7 +52,7 @@ module _ (h : Hour) (ks : List Key) where
       a : Amount
       a = amount item (state_at ss i) (state_at ts i) (state_at us i)
 
-      go : (y : Bool) → SmallCell (if y then share h ks x a j else cell j i item)
+      go : (y : Bool) → SmallCell (when y then share h ks x a j else cell j i item)
       go true = let m = share_most h ks x a j l in rw m.1 (signed_small a.minus m.0 (omega (arith, m.2)))
       go false = old
 

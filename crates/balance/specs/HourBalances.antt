@@ -19,7 +19,7 @@ use Rattle.rules.specs.Hour.{key_at, member, scheduled, counted, share, Cells, P
 use Rattle.rules.specs.Reading.{percents_of}
 use Rattle.rules.specs.Record.{no_source, source_at}
 use Rattle.rules.specs.Refusals.{Outcome, accepted}
-use Rattle.rules.specs.Words.{if◌then◌else◌}
+use Rattle.rules.specs.Words.{when◌then◌else◌}
 use Rattle.rules.specs.declared.Direct.{Direct}
 use Rattle.rules.specs.declared.Hour.{Hour}
 use Rattle.rules.specs.declared.Key.{Key}
@@ -83,7 +83,7 @@ module _ (h : Hour) (ks : List Key) where
       a : Amount
       a = amount item (state_at ss i) (state_at ts i) (state_at us i)
 
-      go : (y : Bool) → member ks x j ≡ y → (if y then share h ks x a j else cell j i item) ≡ cell j i item +ℤ share h ks x a j
+      go : (y : Bool) → member ks x j ≡ y → (when y then share h ks x a j else cell j i item) ≡ cell j i item +ℤ share h ks x a j
       go true e = sym (rw (f e) (+ℤ_idl _))
       go false e = sym (rw (share_none h ks x a j e) (+ℤ_idr (cell j i item)))
 

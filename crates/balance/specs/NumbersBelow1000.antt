@@ -9,7 +9,7 @@ use Rattle.std.proofs.Math.ListN.{get_or-eq_default}
 use Rattle.balance.specs.KeysOfAnHour.{keys_at, keys_length}
 use Rattle.rules.specs.Hour.{or_none, keys, no_key, key_at}
 use Rattle.rules.specs.Sequences.{no_delivery, to_place, times_ten, joined, match, matches, before, after, rule_a, rule_b, rule_c, rule_d, rule_e, placed, numbered}
-use Rattle.rules.specs.Words.{if◌then◌else◌, ◌otherwise◌}
+use Rattle.rules.specs.Words.{when◌then◌else◌, ◌otherwise◌}
 use Rattle.rules.specs.declared.Delivery.{Delivery}
 use Rattle.rules.specs.declared.Hour.{Hour}
 use Rattle.rules.specs.declared.InternalSequence.{InternalSequence}
@@ -41,7 +41,7 @@ module _ (ts : List Delivery) (small : (j : ℕ) → (get_or ts j no_delivery).s
   match_most : (fits : Delivery → Bool) (j : ℕ) → Most 990 (match fits (get_or ts j no_delivery))
   match_most fits j = go (not (to_place (get_or ts j no_delivery)) && fits (get_or ts j no_delivery))
     where
-      go : (x : Bool) → Most 990 (if x then some (times_ten (get_or ts j no_delivery).sequence) else none)
+      go : (x : Bool) → Most 990 (when x then some (times_ten (get_or ts j no_delivery).sequence) else none)
       go true = omega (arith, small j)
       go false = tt
 
@@ -93,7 +93,7 @@ module _ (ts : List Delivery) (small : (j : ℕ) → (get_or ts j no_delivery).s
       any none h = omega arith
       any (some x) h = omega arith
 
-      go : (y : Bool) → (or_none (if y then placed ts n (get_or ts j no_delivery) else some (times_ten (get_or ts j no_delivery).sequence))).0 < 1000
+      go : (y : Bool) → (or_none (when y then placed ts n (get_or ts j no_delivery) else some (times_ten (get_or ts j no_delivery).sequence))).0 < 1000
       go true = any (placed ts n (get_or ts j no_delivery)) (placed_most n (get_or ts j no_delivery))
       go false = omega (arith, small j)
 

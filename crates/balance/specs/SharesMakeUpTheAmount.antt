@@ -10,7 +10,7 @@ use Rattle.laws.specs.Sums.{sum_to_grows, sum_to_longer}
 use Rattle.rules.specs.Group.{Amount, signed, up_to}
 use Rattle.rules.specs.Hour.{member, scheduled, counted, share}
 use Rattle.rules.specs.Sequences.{no_delivery}
-use Rattle.rules.specs.Words.{if◌then◌else◌, sum_to}
+use Rattle.rules.specs.Words.{when◌then◌else◌, sum_to}
 use Rattle.rules.specs.declared.Hour.{Hour}
 use Rattle.rules.specs.declared.Key.{Key}
 
@@ -27,7 +27,7 @@ module _ (h : Hour) (ks : List Key) (x : Key) where
   unfolding share_to
   share_to_grows size j =
       up_to_grows (scheduled h ks x h.ndeliveries) size (counted ks x j) (scheduled h ks x j) (counted ks x (suc j)) (scheduled h ks x (suc j))
-      (sum_to_grows (λ i. if member ks x i then 1 else 0) j) (sum_to_grows (λ i. if member ks x i then (get_or h.deliveries i no_delivery).mwh else 0) j)
+      (sum_to_grows (λ i. when member ks x i then 1 else 0) j) (sum_to_grows (λ i. when member ks x i then (get_or h.deliveries i no_delivery).mwh else 0) j)
 
   share_to_all : (size : ℕ) → 0 < counted ks x h.ndeliveries → share_to size h.ndeliveries ≡ size
   unfolding share_to
@@ -37,7 +37,7 @@ module _ (h : Hour) (ks : List Key) (x : Key) where
   unfolding share_to
   share_to_most size j l =
       up_to_most (scheduled h ks x h.ndeliveries) size (counted ks x j) (scheduled h ks x j)
-      (sum_to_longer (λ i. if member ks x i then (get_or h.deliveries i no_delivery).mwh else 0) j h.ndeliveries l)
+      (sum_to_longer (λ i. when member ks x i then (get_or h.deliveries i no_delivery).mwh else 0) j h.ndeliveries l)
 
   -- the shares make up the amount
   pub shares_sum : (a : Amount) → 0 < counted ks x h.ndeliveries → sumℤ (share h ks x a) h.ndeliveries ≡ value a

@@ -18,7 +18,7 @@ use Rattle.rules.specs.Refusals.{Outcome, accepted, refused, refuse, and_then, n
 use Rattle.rules.specs.Hour.{reconstructed}
 use Rattle.rules.specs.Report.{report, report_texts, hour_lines}
 use Rattle.rules.specs.Spreadsheet.{file_lines, file_text}
-use Rattle.rules.specs.Words.{if◌then◌else◌, list_to}
+use Rattle.rules.specs.Words.{when◌then◌else◌, list_to}
 use Rattle.rules.specs.declared.Hour.{Hour}
 use Rattle.rules.specs.declared.Refusal.{Refusal}
 use Rattle.rules.specs.declared.Refusal.TheVariants.{Short}
@@ -113,10 +113,10 @@ barleyhood_report κ a code x p = report_tells a.0.now (length a.1.0.now) code p
 -- Its labels.
 
 -- a label has few bytes
-few : (text : List ℕ) (i n : ℕ) → (i < n → length text ≤ 32) → length (if ltb i n then text else []) ≤ 32
+few : (text : List ℕ) (i n : ℕ) → (i < n → length text ≤ 32) → length (when ltb i n then text else []) ≤ 32
 few text i n l = go (ltb i n) refl
   where
-    go : (b : Bool) → ltb i n ≡ b → length (if b then text else []) ≤ 32
+    go : (b : Bool) → ltb i n ≡ b → length (when b then text else []) ≤ 32
     go true e = l (ltb-true i n e)
     go false e = omega arith
 

@@ -1,7 +1,7 @@
 -- A source as a falling line of merit: its MWh k has the merit one - 1 - step·k. Of no room, `one` is 0.
 -- A source's MWh above a mark are counted by the reciprocal of its step, with no division.
 use Rattle.std.specs.Prelude.{◌≡◌, ℕ, ◌+◌, ◌-◌, ◌*◌, ◌/◌, ◌^◌, ◌<◌, ◌≤◌, min, ◌⊎◌, List, nat_lt, slice_index}
-use Rattle.rules.specs.Words.{if◌then◌else◌, sum_to}
+use Rattle.rules.specs.Words.{when◌then◌else◌, sum_to}
 
 -- how many lines an engine has room for
 abbrev pub lanes : ℕ
@@ -38,7 +38,7 @@ pub record Scales (step span inv : List ℕ) (n : ℕ) : Type 0 where
 
 -- w over the step, rounded up
 abbrev pub steps_in : (w step inv : ℕ) → ℕ
-steps_in w step inv = if nat_lt (w * inv / 2 ^ 40 * step) w then w * inv / 2 ^ 40 + 1 else w * inv / 2 ^ 40
+steps_in w step inv = when nat_lt (w * inv / 2 ^ 40 * step) w then w * inv / 2 ^ 40 + 1 else w * inv / 2 ^ 40
 
 -- how many MWh of a source have a merit of at least p
 unfoldable pub stock : (one step span inv p : ℕ) → ℕ

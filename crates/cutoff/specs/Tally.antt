@@ -6,7 +6,7 @@ use Rattle.std.proofs.Math.Decide.{dec_lt, dec_le}
 use borrow.Author.Tests.{ltb-true, ltb-false, lt-ltb, le-ltb}
 use Rattle.laws.specs.Sums.{sum_to_bound, sum_to_zero}
 use Rattle.cutoff.specs.Lines.{at, Source, Table, Scaled, Scales, stock, stock_at}
-use Rattle.rules.specs.Words.{if◌then◌else◌, sum_to}
+use Rattle.rules.specs.Words.{when◌then◌else◌, sum_to}
 
 -- of the MWh below cap those below q pass the test P, and no other
 pub record Counted (P : ℕ → Type 0) (cap q : ℕ) : Type 0 where
@@ -130,7 +130,7 @@ module _ {one step span inv cap : ℕ} (s : Source one step span inv cap) where
           counted_slope one step cap p w (w * inv / 2 ^ 40) h.0 (omega arith) l (ceil_under step w inv r (omega (arith, slope_small))))
     ]
 
-    steps_counted : (b : Bool) → nat_lt (w * inv / 2 ^ 40 * step) w ≡ b → Counted (λ k. p + step * k < one) cap (if b then w * inv / 2 ^ 40 + 1 else w * inv / 2 ^ 40)
+    steps_counted : (b : Bool) → nat_lt (w * inv / 2 ^ 40 * step) w ≡ b → Counted (λ k. p + step * k < one) cap (when b then w * inv / 2 ^ 40 + 1 else w * inv / 2 ^ 40)
     steps_counted true t = steps_more (ltb-true _ _ t)
     steps_counted false t = steps_same (ltb-false _ _ t)
 
@@ -159,7 +159,7 @@ pub stock_few : (one : ℕ) {step span inv : ℕ} → Scaled step span inv → (
 unfolding stock
 stock_few one {step} {span} {inv} s p = go (min span (one - p)) (omega arith) (nat_lt (min span (one - p) * inv / 2 ^ 40 * step) (min span (one - p)))
   where
-    go : (w : ℕ) → w ≤ span → (b : Bool) → (if b then w * inv / 2 ^ 40 + 1 else w * inv / 2 ^ 40) ≤ 2 ^ 20 + 1
+    go : (w : ℕ) → w ≤ span → (b : Bool) → (when b then w * inv / 2 ^ 40 + 1 else w * inv / 2 ^ 40) ≤ 2 ^ 20 + 1
     go w l true = omega (arith, s.product w l)
     go w l false = omega (arith, s.product w l)
 

@@ -1,7 +1,7 @@
 -- 1 and the first line, and what a deck comes to by them and the lines after.
 use Rattle.std.specs.Prelude.{List, ◌≡◌, ℕ, ltb, length}
 use Rattle.std.specs.Borrow.{Bor}
-use Rattle.rules.specs.Words.{if◌then◌else◌}
+use Rattle.rules.specs.Words.{when◌then◌else◌}
 use Rattle.rules.specs.Refusals.{Outcome, accepted, refused}
 use Rattle.rules.specs.Fields.{Field, got, malformed}
 use Rattle.rules.specs.Lines.{Line, line_at}
@@ -36,7 +36,7 @@ head_lined malformed = head_refused (Form 1)
 
 -- 1 comes before the line, which stands at a place
 abbrev pub head_step : List ℕ → ℕ → HeadStep
-head_step s at = if ltb 8192 (length s) then head_refused TooLong else head_lined (line_at s at)
+head_step s at = when ltb 8192 (length s) then head_refused TooLong else head_lined (line_at s at)
 
 -- The lines after it, from a place on.
 

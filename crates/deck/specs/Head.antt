@@ -6,7 +6,7 @@ use Rattle.std.proofs.Math.Bool.{true, false}
 use Rattle.std.proofs.Math.Option.{Option, none, some}
 use native.Mathlib.Omega.{arith}
 use Rattle.std.proofs.Math.Dec.{eqb}
-use Rattle.rules.specs.Words.{if◌then◌else◌}
+use Rattle.rules.specs.Words.{when◌then◌else◌}
 use Rattle.rules.specs.Refusals.{Outcome, accepted, refused, refuse, and_then}
 use Rattle.rules.specs.Fields as fields
 use Rattle.rules.specs.Fields.{Field, got, malformed, on_field, byte, byte_at, Chars}
@@ -62,7 +62,7 @@ rows_after_head s = by_length (ltb 8192 (length s))
     by_line malformed = refl
 
     by_length : (z : Bool)
-        → let x = if z then head_refused TooLong else head_lined (line_at s 0) in
+        → let x = when z then head_refused TooLong else head_lined (line_at s 0) in
         rows_after s x.next x ≡ refuse z TooLong (on_line (line_at s 0) (Form 1) λ l next. and_then (headed l) λ h. lines_from (length s) s h next)
     by_length true = refl
     by_length false = by_line (line_at s 0)
@@ -80,7 +80,7 @@ head_follows s = by_length (ltb 8192 (length s))
     by_line (got l next) e = by_head l next e (headed l) refl
     by_line malformed e = λ v. let z : ◌≡◌ {A = ℕ} 0 1 = cc in absurd (omega arith)
 
-    by_length : (z : Bool) → let x = if z then head_refused TooLong else head_lined (line_at s 0) in Follows s x.next x
+    by_length : (z : Bool) → let x = when z then head_refused TooLong else head_lined (line_at s 0) in Follows s x.next x
     by_length true = λ v. let z : ◌≡◌ {A = ℕ} 0 1 = cc in absurd (omega arith)
     by_length false = by_line (line_at s 0) refl
 
@@ -117,7 +117,7 @@ module _ (s : List ℕ) (at : ℕ) (short : length s ≤ 8192) where
   not_head b h e = go (eqb b 85) (eqb b 80) (eqb b 70) (eqb b 84) (eqb b 68) (eqb b 69) (rw h at e)
     where
       go : (u p f t d e : Bool)
-          → (if u then some U else if p then some P else if f then some F else if t then some T else if d then some D else if e then some E else none) ≡ some H → ⊥
+          → (when u then some U else when p then some P else when f then some F else when t then some T else when d then some D else when e then some E else none) ≡ some H → ⊥
       go true p f t d e q = let z : ◌≡◌ {A = ℕ} 0 1 = cc in omega arith
       go false true f t d e q = let z : ◌≡◌ {A = ℕ} 0 1 = cc in omega arith
       go false false true t d e q = let z : ◌≡◌ {A = ℕ} 0 1 = cc in omega arith
@@ -130,7 +130,7 @@ module _ (s : List ℕ) (at : ℕ) (short : length s ≤ 8192) where
   unfolding fields.byte_at lines.line_at
   no_head e = not_too_long ∙ go (eqb (byte s at) 72) refl e
     where
-      go : (z : Bool) → eqb (byte s at) 72 ≡ z → step_of (if z then got tt (at + 1) else malformed) ≡ Missing → head_lined (line_from s (at + 1) (letter_of (byte s at))) ≡ head_refused (Form 1)
+      go : (z : Bool) → eqb (byte s at) 72 ≡ z → step_of (when z then got tt (at + 1) else malformed) ≡ Missing → head_lined (line_from s (at + 1) (letter_of (byte s at))) ≡ head_refused (Form 1)
       go true ze e = let z : ◌≡◌ {A = ℕ} 0 1 = cc in absurd (omega arith)
       go false ze e = other_letter (letter_of (byte s at)) (not_head (byte s at) ze)
 
@@ -140,7 +140,7 @@ module _ (s : List ℕ) (at : ℕ) (short : length s ≤ 8192) where
     unfolding fields.byte_at lines.letter_of
     lettered = go (eqb (byte s at) 72) refl e
       where
-        go : (z : Bool) → eqb (byte s at) 72 ≡ z → step_of (if z then got tt (at + 1) else malformed) ≡ At p → (letter_of (byte s at) ≡ some H) × (at + 1 ≡ p)
+        go : (z : Bool) → eqb (byte s at) 72 ≡ z → step_of (when z then got tt (at + 1) else malformed) ≡ At p → (letter_of (byte s at) ≡ some H) × (at + 1 ≡ p)
         go true ze e = (ap letter_of (eqb-true (byte s at) 72 ze), cc)
         go false ze e = let z : ◌≡◌ {A = ℕ} 0 1 = cc in absurd (omega arith)
 

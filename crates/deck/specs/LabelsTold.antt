@@ -1,7 +1,7 @@
 -- Where a line's answer tells where a label stands, a label stands there.
 use Rattle.std.specs.Prelude.{◌≡◌, refl, Bool, true, false, List, ℕ, eqb}
 use Rattle.std.proofs.Common.{subst, arith}
-use Rattle.rules.specs.Words.{if◌then◌else◌}
+use Rattle.rules.specs.Words.{when◌then◌else◌}
 use Rattle.rules.specs.Fields.{Field, got, malformed, Place}
 use Rattle.rules.specs.Lines.{U, P, F, T, D, places_at}
 use Rattle.rules.specs.declared.Basis.{Basis}
@@ -73,7 +73,7 @@ module _ (s : List ℕ) (at : ℕ) where
     pub source_told : (letter : ℕ) → plant_from s at letter ≡ SourceRead in_range plant from upto next → LabelStands s (place from upto)
     source_told letter = go (eqb letter 85) (eqb letter 80) (eqb letter 70)
       where
-        go : (u p f : Bool) → (if u then unit_source (unit_line (places_at s at U)) else if p then purchase_source (purchase_line (places_at s at P)) else if f then fixed_source (fixed_line (places_at s at F)) else NoSource)
+        go : (u p f : Bool) → (when u then unit_source (unit_line (places_at s at U)) else when p then purchase_source (purchase_line (places_at s at P)) else when f then fixed_source (fixed_line (places_at s at F)) else NoSource)
             ≡ SourceRead in_range plant from upto next → LabelStands s (place from upto)
         go true p f e = unit_source_told _ refl e
         go false true f e = purchase_source_told _ refl e

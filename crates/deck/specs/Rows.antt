@@ -6,7 +6,7 @@ use Rattle.std.proofs.Math.Option.{some}
 use Prim.Native.Nat.{ℕ, zero, suc, ◌+◌, ◌-◌, ◌<◌, ◌≤◌}
 use Rattle.std.proofs.Math.Decide.{ℕ_discrete}
 use Rattle.std.proofs.Math.ListN.{get_or-eq_default}
-use Rattle.rules.specs.Words.{if◌then◌else◌}
+use Rattle.rules.specs.Words.{when◌then◌else◌}
 use Rattle.rules.specs.Answers.{verdict_of}
 use Rattle.rules.specs.Refusals.{Outcome, accepted, refused}
 use Rattle.rules.specs.Sequences.{no_delivery}
@@ -73,7 +73,7 @@ module _ (s : List ℕ) where
   -- the labels of the first n entries of a class
   module _ {A : Type 0} (label : A → Label) (default : A) where
     abbrev part_of : List A → ℕ → ℕ → List ℕ
-    part_of xs n i = if ltb i n then escape (chars (label (get_or xs i default))) else []
+    part_of xs n i = when ltb i n then escape (chars (label (get_or xs i default))) else []
 
     placed_more : (xs : List A) (n : ℕ) (x : A) (start : ℕ → ℕ) (ps : List Place) (p : Place) → n < 32 → length xs ≡ 32 → Holds s (escape (chars (label x))) p
         → p.from ≡ part_start (start n) (length (escape (chars (label x)))) → Placed s (part_of xs n) start ps → Placed s (part_of (set xs n x) (n + 1)) start (set ps n p)
@@ -242,7 +242,7 @@ module _ {s : List ℕ} {o : Outcome Hour} {h : Hour} {t : Tables} {u : Totals} 
       b : letter_of (byte s at) ≡ some E
       b = ap letter_of be
 
-      past : (next : ℕ) → byte_at s (at + 1) 10 ≡ got tt next → (z : Bool) → eqb next (length s) ≡ z → Whole o h (if z then verdict_of (finished h) else Refused (Form (line_number h + 1)))
+      past : (next : ℕ) → byte_at s (at + 1) 10 ≡ got tt next → (z : Bool) → eqb next (length s) ≡ z → Whole o h (when z then verdict_of (finished h) else Refused (Form (line_number h + 1)))
       past next e true ze = whole_finished o h (goes_end s h at o w.going (line E tt) next (line_got s at E b tt next (rw e)) refl (eqb-true next (length s) ze))
       past next e false ze =
           whole_refused o h _

@@ -1,6 +1,6 @@
 -- What the line at hand comes to, tried on the counts of the hour so far and on the tables kept beside it.
 use Rattle.std.specs.Prelude.{◌≡◌, Bool, true, false, List, ℕ, ◌+◌, eqb, set}
-use Rattle.rules.specs.Words.{if◌then◌else◌}
+use Rattle.rules.specs.Words.{when◌then◌else◌}
 use Rattle.rules.specs.Answers.{verdict_of}
 use Rattle.rules.specs.Fields as fields
 use Rattle.rules.specs.Fields.{chars_at}
@@ -86,9 +86,9 @@ fixed_source NoFixed = NoSource
 -- by its letter, U, P or F; any other is no source line
 abbrev pub plant_from : List ℕ → ℕ → ℕ → SourceLine
 plant_from s at letter =
-    if eqb letter 85 then unit_source (unit_line (places_at s at U)) else
-    if eqb letter 80 then purchase_source (purchase_line (places_at s at P)) else
-    if eqb letter 70 then fixed_source (fixed_line (places_at s at F)) else
+    when eqb letter 85 then unit_source (unit_line (places_at s at U)) else
+    when eqb letter 80 then purchase_source (purchase_line (places_at s at P)) else
+    when eqb letter 70 then fixed_source (fixed_line (places_at s at F)) else
     NoSource
 
 module _ (s : List ℕ) (n : Counts) (u : Totals) (lo hi : List ℕ) where
@@ -158,7 +158,7 @@ direct_step s n t NoDirect = direct_refused (Form (next_line n))
 
 -- E, from the place after its letter: its LF is the last of so many bytes, and then 10 and 11 have a verdict on the whole.
 abbrev pub end_verdict : ℕ → ℕ → Verdict → Step → Verdict
-end_verdict size line whole (At next) = if eqb next size then whole else Refused (Form (line + 1))
+end_verdict size line whole (At next) = when eqb next size then whole else Refused (Form (line + 1))
 end_verdict size line whole Missing = Refused (Form line)
 
 -- A step, made of what its line was read to and of the rules tried on it.

@@ -6,7 +6,7 @@ use Rattle.std.proofs.Math.Bool.{true, false}
 use Rattle.std.proofs.Math.Option.{none, some}
 use Rattle.std.proofs.Math.Dec.{eqb}
 use borrow.Author.Tests.{eqb-true, ne_eqb}
-use Rattle.rules.specs.Words.{if◌then◌else◌}
+use Rattle.rules.specs.Words.{when◌then◌else◌}
 use Rattle.rules.specs.Answers.{verdict_of}
 use Rattle.rules.specs.Refusals.{Outcome, accepted, refused, and_then}
 use Rattle.rules.specs.Fields as fields
@@ -201,7 +201,7 @@ module _ (s : List ℕ) (h : Hour) (t : Tables) (u : Totals) (k : Kept h t) (at 
       -- judged by its cut numbers
       judge : (v : Fields fields.Place (fields_of U)) (next : ℕ) → places_at s (at + 1) U ≡ got v next → (x : UnitNumbers)
           → (unit_of (seen (fields_of U) s (cut_fields (fields_of U) v))).plant ≡ IsUnit (unit_made x) → (r : Bool) → plant_inside (IsUnit (unit_made x)) ≡ r
-          → SourceTurn s h t u at (judged_step s (counts_of h) u t.slo t.shi (if r then Inside (unit_made x) else Outside) v.1.1.1.1.1.1.1.1.1.1.0 next)
+          → SourceTurn s h t u at (judged_step s (counts_of h) u t.slo t.shi (when r then Inside (unit_made x) else Outside) v.1.1.1.1.1.1.1.1.1.1.0 next)
       judge v next e x is true r =
           source_turn U unit_of (λ v. v.1.1.1.1.1.1.1.1.1.1.0) (λ v. refl) b refl unit_inside (λ w. refl) v next e
           (line_stands s U (at + 1) v next e).labels.0 (line_escaped s U (at + 1) v next e).0 refl true (IsUnit (unit_made x)) (ap plant_inside is ∙ r) (λ q. sym is)

@@ -7,7 +7,7 @@ use Rattle.std.proofs.Math.Bool.{true, false}
 use mathlib.Core.List.{List, [], ◌∷◌}
 use Rattle.std.proofs.Math.Dec.{eqb}
 use Rattle.std.proofs.Math.ListN.{drop}
-use Rattle.rules.specs.Words.{if◌then◌else◌}
+use Rattle.rules.specs.Words.{when◌then◌else◌}
 use Rattle.rules.specs.Fields as fields
 use Rattle.rules.specs.Fields.{Field, is_character, Chars, all_characters, is_label}
 use Rattle.rules.specs.Spreadsheet as spreadsheet
@@ -28,9 +28,9 @@ quoted_read (c ∷ cs) s rest i a u e =
     let p = both_true (is_character c) (all_characters cs) a in
     go (eqb c 34) refl p.0 e (λ i. quoted_read cs s rest i p.1 u)
   where
-    go : (q : Bool) → eqb c 34 ≡ q → is_character c ≡ true → drop i s ≡ (if q then 34 ∷ 34 ∷ doubled cs (34 ∷ rest) else c ∷ doubled cs (34 ∷ rest))
+    go : (q : Bool) → eqb c 34 ≡ q → is_character c ≡ true → drop i s ≡ (when q then 34 ∷ 34 ∷ doubled cs (34 ∷ rest) else c ∷ doubled cs (34 ∷ rest))
         → ((i : ℕ) → drop i s ≡ doubled cs (34 ∷ rest) → Reads s (quoted false i (doubled cs (34 ∷ rest))) cs rest)
-        → Reads s (quoted false i (if q then 34 ∷ 34 ∷ doubled cs (34 ∷ rest) else c ∷ doubled cs (34 ∷ rest))) (c ∷ cs) rest
+        → Reads s (quoted false i (when q then 34 ∷ 34 ∷ doubled cs (34 ∷ rest) else c ∷ doubled cs (34 ∷ rest))) (c ∷ cs) rest
     go true q k e ih =
         let w = doubled cs (34 ∷ rest) in
         rw (eqb-true c 34 q) (pushed_read s rest 34 _ cs (ih (suc (suc i)) (drop_suc s w (suc i) 34 (drop_suc s (34 ∷ w) i 34 e))))

@@ -9,7 +9,7 @@ use Rattle.std.proofs.Math.Option.{Option, none, some}
 use Prim.Native.Nat.{ℕ, zero, suc, ◌+◌, ◌-◌, ◌≤◌}
 use Rattle.std.proofs.Math.Dec.{eqb}
 use Rattle.std.proofs.Math.ListN.{length, drop, length-drop}
-use Rattle.rules.specs.Words.{if◌then◌else◌}
+use Rattle.rules.specs.Words.{when◌then◌else◌}
 use Rattle.rules.specs.Refusals.{Outcome, accepted, refused, and_then}
 use Rattle.rules.specs.Report.{ReportLine, hour, pair, internal, end, refusal}
 use Rattle.rules.specs.Spreadsheet as spreadsheet
@@ -39,7 +39,7 @@ module _ (s : List ℕ) where
   stage_read l ls k p go (some further) e w o ih = test (eqb further ended) refl
     where
       test : (b : Bool) → eqb further ended ≡ b
-          → (if b then (if eqb p (length s) then accepted (l ∷ []) else refused (FileRecord (k + 1))) else and_then (go further) λ ls. accepted (l ∷ ls)) ≡ accepted (l ∷ ls)
+          → (when b then (when eqb p (length s) then accepted (l ∷ []) else refused (FileRecord (k + 1))) else and_then (go further) λ ls. accepted (l ∷ ls)) ≡ accepted (l ∷ ls)
       test true b =
           let none_left = nothing_after_end ls (ap (λ (n : ℕ). in_order n ls) (sym (eqb-true further ended b)) ∙ o) in
           let at_end : p ≡ length s = omega (arith, length-drop p s, ap length (e ∙ ap record_texts none_left)) in

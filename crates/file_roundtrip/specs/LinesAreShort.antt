@@ -1,7 +1,7 @@
 -- The lines of a file, printed, have at most twice its bytes: a backslash, which stands single in the file, is all that grows.
 use Rattle.std.specs.Prelude.{Bool, true, false, List, [], ◌∷◌, ◌++◌, ◌≡◌, ℕ, zero, suc, ◌+◌, ◌-◌, ◌*◌, ◌≤◌, eqb, ℤ, length}
 use Rattle.std.proofs.Common.{ap, arith, length-append}
-use Rattle.rules.specs.Words.{if◌then◌else◌}
+use Rattle.rules.specs.Words.{when◌then◌else◌}
 use Rattle.rules.specs.Fields.{Chars, escape}
 use Rattle.rules.specs.Refusals.{accepted}
 use Rattle.rules.specs.Report as reports
@@ -18,7 +18,7 @@ doubled_longer [] rest = omega arith
 doubled_longer (c ∷ cs) rest = go (eqb c 34) (doubled_longer cs rest)
   where
     go : (b : Bool) → length cs + length rest ≤ length (doubled cs rest)
-        → length (c ∷ cs) + length rest ≤ length (if b then 34 ∷ 34 ∷ doubled cs rest else c ∷ doubled cs rest)
+        → length (c ∷ cs) + length rest ≤ length (when b then 34 ∷ 34 ∷ doubled cs rest else c ∷ doubled cs rest)
     go true h = omega arith
     go false h = omega arith
 

@@ -8,7 +8,7 @@ use mathlib.Core.List.{List, [], ◌∷◌}
 use native.Mathlib.Omega.{arith}
 use Rattle.std.proofs.Math.Dec.{eqb}
 use Rattle.std.proofs.Math.ListN.{length, drop, length-drop}
-use Rattle.rules.specs.Words.{if◌then◌else◌}
+use Rattle.rules.specs.Words.{when◌then◌else◌}
 use Rattle.rules.specs.Fields as fields
 use Rattle.rules.specs.Fields.{got, is_character, Chars, all_characters, is_label}
 use Rattle.rules.specs.Spreadsheet as spreadsheet
@@ -66,7 +66,7 @@ module _ (s : List ℕ) where
         within = λ h. c.within (omega (arith, ap length e, length-drop i s));
       }
     where
-      text_is : (q : Bool) → eqb b 34 ≡ q → lead q (b ∷ t) ≡ (if q then 34 ∷ 34 ∷ doubled cs (34 ∷ drop next s) else b ∷ doubled cs (34 ∷ drop next s))
+      text_is : (q : Bool) → eqb b 34 ≡ q → lead q (b ∷ t) ≡ (when q then 34 ∷ 34 ∷ doubled cs (34 ∷ drop next s) else b ∷ doubled cs (34 ∷ drop next s))
       text_is true qe = rw (eqb-true b 34 qe, c.text)
       text_is false qe = ap (λ (l : List ℕ). b ∷ l) c.text
 

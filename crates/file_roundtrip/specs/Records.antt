@@ -5,7 +5,7 @@ use Rattle.std.proofs.Math.Path.{refl, ap, subst}
 use Rattle.std.proofs.Common.{sym, ◌∙◌, arith, eqb-true, eq-eqb}
 use Rattle.std.proofs.Math.Bool.{true, false}
 use mathlib.Core.List.{List, [], ◌∷◌, ◌++◌}
-use Rattle.rules.specs.Words.{if◌then◌else◌, text}
+use Rattle.rules.specs.Words.{when◌then◌else◌, text}
 use Rattle.rules.specs.Fields.{got, byte, byte_at}
 use Rattle.rules.specs.Report.{ReportLine, hour, pair, internal, end, signed_text}
 use Rattle.rules.specs.Spreadsheet as spreadsheet
@@ -231,7 +231,7 @@ module _ (s : List ℕ) (at : ℕ) where
   unfolding spreadsheet.record_at
   record_stood l next e = go (eqb (byte s at) 104) (eqb (byte s at) 100) (eqb (byte s at) 105) e
     where
-      go : (h d i : Bool) → (if h then hour_at s at else if d then delivery_at s at else if i then internal_at s at else end_at s at) ≡ got l next → RecordStood l s at next
+      go : (h d i : Bool) → (when h then hour_at s at else when d then delivery_at s at else when i then internal_at s at else end_at s at) ≡ got l next → RecordStood l s at next
       go true d i e = hour_stood l next e
       go false true i e = delivery_stood l next e
       go false false true e = internal_stood l next e

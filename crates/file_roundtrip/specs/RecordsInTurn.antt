@@ -12,7 +12,7 @@ use Prim.Native.Nat.{ℕ, zero, suc, ◌+◌, ◌-◌, ◌<◌, ◌≤◌}
 use Rattle.std.proofs.Math.Dec.{eqb}
 use Rattle.std.proofs.Math.ListN.{length, drop}
 use Rattle.std.proofs.Math.Seq.{drop-length}
-use Rattle.rules.specs.Words.{if◌then◌else◌}
+use Rattle.rules.specs.Words.{when◌then◌else◌}
 use Rattle.rules.specs.Refusals.{Outcome, accepted, refused, place_of, and_then}
 use Rattle.rules.specs.Fields.{Field, got, malformed}
 use Rattle.rules.specs.Report.{ReportLine}
@@ -58,7 +58,7 @@ module _ (s : List ℕ) where
     one_more further ls e r = record { order = rw e r.order; fit = rw t.fits r.fit; text = t.text ∙ ap (record_text l) r.text }
 
     last_one : (further : ℕ) → after stage l ≡ some further → eqb further ended ≡ true → (b : Bool) → eqb p (length s) ≡ b
-        → Right stage k at (if b then accepted (l ∷ []) else refused (FileRecord (k + 1)))
+        → Right stage k at (when b then accepted (l ∷ []) else refused (FileRecord (k + 1)))
     unfolding spreadsheet.in_order spreadsheet.all_lines_fit spreadsheet.record_texts
     last_one further e f true b =
         one_more further [] e (record { order = f; fit = refl; text = ap (λ (n : ℕ). drop n s) (eqb-true p (length s) b) ∙ drop-length s })
@@ -73,7 +73,7 @@ module _ (s : List ℕ) where
     stage_right (some further) e = test (eqb further ended) refl
       where
         test : (b : Bool) → eqb further ended ≡ b
-            → Right stage k at (if b then (if eqb p (length s) then accepted (l ∷ []) else refused (FileRecord (k + 1))) else and_then (go further) λ ls. accepted (l ∷ ls))
+            → Right stage k at (when b then (when eqb p (length s) then accepted (l ∷ []) else refused (FileRecord (k + 1))) else and_then (go further) λ ls. accepted (l ∷ ls))
         test true b = last_one further e b (eqb p (length s)) refl
         test false b = then_right further e (go further) (ih further)
 

@@ -3,7 +3,7 @@
 --     signed_stood     where z is read, it fits 64 signed bits and its text stands up to the next place
 use Rattle.std.specs.Prelude.{◌≡◌, refl, Bool, true, false, not, ◌&&◌, List, [], ◌∷◌, ◌++◌, ℕ, zero, suc, ◌+◌, ◌-◌, ◌*◌, ◌^◌, ◌<◌, ◌≤◌, ltb, eqb, ℤ, pos, negsuc, length, drop}
 use Rattle.std.proofs.Common.{ap, subst, ◌∙◌, arith, length-drop, ltb-true, eq-eqb, ne_eqb}
-use Rattle.rules.specs.Words.{if◌then◌else◌}
+use Rattle.rules.specs.Words.{when◌then◌else◌}
 use Rattle.rules.specs.Fields as fields
 use Rattle.rules.specs.Fields.{got, malformed, on_field, byte, is_digit, run, number_at, digits}
 use Rattle.rules.specs.Report.{signed_text}
@@ -42,7 +42,7 @@ unfolding fields.run
 run_within [] w i v n e = let k : i ≡ n = cc in (omega arith, omega arith)
 run_within (b ∷ t) w i v n e = go (is_digit b) e (run_within t (w * 10 + (b - 48)) (suc i) v n)
   where
-    go : (p : Bool) → (if p then run (w * 10 + (b - 48)) (suc i) t else got w i) ≡ got v n
+    go : (p : Bool) → (when p then run (w * 10 + (b - 48)) (suc i) t else got w i) ≡ got v n
         → (run (w * 10 + (b - 48)) (suc i) t ≡ got v n → (suc i ≤ n) × (n ≤ suc i + length t)) → (i ≤ n) × (n ≤ i + suc (length t))
     go true e ih = let k = ih e in (omega arith, omega arith)
     go false e ih = let k : i ≡ n = cc in (omega arith, omega arith)
@@ -83,7 +83,7 @@ unfolding spreadsheet.signed_at
 signed_stood z s at next e = go (eqb (byte s at) 45) refl e
   where
     -- what passed the test of its bits
-    passed : (y : ℤ) (p : ℕ) → (if fits64 y then got y p else malformed) ≡ got z next → (fits64 y ≡ true → p ≡ next → SignedStood y s at next) → SignedStood z s at next
+    passed : (y : ℤ) (p : ℕ) → (when fits64 y then got y p else malformed) ≡ got z next → (fits64 y ≡ true → p ≡ next → SignedStood y s at next) → SignedStood z s at next
     passed y p e there =
         let q = got_passed (fits64 y) (got y p) z next e in
         let same = q.1 in
@@ -95,7 +95,7 @@ signed_stood z s at next e = go (eqb (byte s at) 45) refl e
     negative zero p m f e = malformed_not_got z next e
     negative (suc n) p m f e = passed (negsuc n) p e (λ fit k. below_stood n s at next fit m (f ∙ ap (got (suc n)) k))
 
-    go : (m : Bool) → eqb (byte s at) 45 ≡ m → (if m then on_field (number_at s (at + 1)) below else on_field (number_at s at) above) ≡ got z next → SignedStood z s at next
+    go : (m : Bool) → eqb (byte s at) 45 ≡ m → (when m then on_field (number_at s (at + 1)) below else on_field (number_at s at) above) ≡ got z next → SignedStood z s at next
     go true m e = let p = field_passed (number_at s (at + 1)) below z next e in negative p.mid p.place m p.first p.second
     go false m e =
         let p = field_passed (number_at s at) above z next e in

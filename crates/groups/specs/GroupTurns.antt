@@ -23,7 +23,7 @@ use Rattle.roundtrip.specs.GivenHour.{valid_given}
 use Rattle.rules.specs.Group.{opened, remainder}
 use Rattle.rules.specs.Hour.{keys, key_at, member, scheduled, counted, took_all, turns}
 use Rattle.rules.specs.Refusals.{Outcome, accepted, refused}
-use Rattle.rules.specs.Words.{if◌then◌else◌}
+use Rattle.rules.specs.Words.{when◌then◌else◌}
 use Rattle.rules.specs.Writing.{valid}
 use Rattle.rules.specs.declared.Hour.{Hour}
 use Rattle.rules.specs.declared.Key.{Key}
@@ -37,7 +37,7 @@ use Rattle.ladder.specs.Ready.{AllReady}
 
 -- A bound on what is left: how many numbers are not above the next group's.
 abbrev pub past : NextGroup → ℕ
-past next = if next.there then suc next.key.number.0 else 0
+past next = when next.there then suc next.key.number.0 else 0
 
 pub past_there : (next : NextGroup) → next.there ≡ true → past next ≡ suc next.key.number.0
 past_there next t = rw t
@@ -45,7 +45,7 @@ past_there next t = rw t
 pub past_most : (ks : List Key) (n : ℕ) (x : Key) (next : NextGroup) → Next ks n x next → past next ≤ x.number.0
 past_most ks n x next f = go next.there refl
   where
-    go : (t : Bool) → next.there ≡ t → (if t then suc next.key.number.0 else 0) ≤ x.number.0
+    go : (t : Bool) → next.there ≡ t → (when t then suc next.key.number.0 else 0) ≤ x.number.0
     go true e = omega (arith, ltb-true next.key.number.0 x.number.0 (f.after e))
     go false e = omega arith
 

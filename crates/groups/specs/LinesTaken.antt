@@ -11,7 +11,7 @@ use Rattle.merit.specs.LevelNeverBelowB.{Sound, Took, directed_took, state_at, p
 use Rattle.merit.specs.NumbersStaySmall.{Small, took_small}
 use Rattle.rules.specs.Group.{no_running, no_direct, directed, group_line, group_lines}
 use Rattle.rules.specs.Hour.{took_all}
-use Rattle.rules.specs.Words.{if◌then◌else◌, sum_to}
+use Rattle.rules.specs.Words.{when◌then◌else◌, sum_to}
 use Rattle.rules.specs.declared.Direct.{Direct}
 use Rattle.rules.specs.declared.Running.{Running}
 use Rattle.ladder.specs.Ready.{AllReady, took_ready}
@@ -54,7 +54,7 @@ module _ (asked : ℕ → Bool) (lines : List Direct) (ss : List Running) (n : �
   taken_none = record { states = refl; sum = sym (sum_to_zero n (λ i. (state_at ss i).d - (state_at ss i).d) (λ i l. omega arith)) }
 
   line_more : (q : ℕ) (b : Bool) → asked (line_at lines q).delivery ≡ b → group_lines asked lines ss (q + 1) ≡
-      (if b then set (group_lines asked lines ss q) (line_at lines q).source (directed (state_at (group_lines asked lines ss q) (line_at lines q).source) (line_at lines q)) else group_lines asked lines ss q)
+      (when b then set (group_lines asked lines ss q) (line_at lines q).source (directed (state_at (group_lines asked lines ss q) (line_at lines q).source) (line_at lines q)) else group_lines asked lines ss q)
   unfolding group_lines group_line
   line_more q b e = rw (add-one q) (rw e refl)
 

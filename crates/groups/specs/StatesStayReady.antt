@@ -17,7 +17,7 @@ use Rattle.rules.specs.Group.{opened, room, emergency, lowered, unloading, last_
 use Rattle.rules.specs.Hour.{member, Progress, opening}
 use Rattle.rules.specs.Record.{no_source}
 use Rattle.rules.specs.Refusals.{Outcome, accepted}
-use Rattle.rules.specs.Words.{if◌then◌else◌}
+use Rattle.rules.specs.Words.{when◌then◌else◌}
 use Rattle.rules.specs.Writing.{valid}
 use Rattle.rules.specs.declared.Hour.{Hour}
 use Rattle.rules.specs.declared.InternalSequence.{InternalSequence}
@@ -55,7 +55,7 @@ remainder_long number n total took ts us e = go (leb took total) e
     credited r o (raising h) q = rw (← accepted_same _ us q) (plain_length crediting n ts r)
     credited r o (no_headroom h) q = refused_not_accepted (NoHeadroom number) us q
 
-    go : (y : Bool) → (if y then unload number n ts (total - took) else credit number n ts (took - total)) ≡ accepted us → length us ≡ length ts
+    go : (y : Bool) → (when y then unload number n ts (total - took) else credit number n ts (took - total)) ≡ accepted us → length us ≡ length ts
     go true q = unloaded (total - took) _ (unload_is number n ts (total - took)) q
     go false q = credited (took - total) _ (credit_is number n ts (took - total)) q
 

@@ -17,7 +17,7 @@ use Rattle.merit.specs.RemainderMoves.{down, room_last, emergency_leaves}
 use Rattle.rules.specs.Group.{no_running, room, emergency, last, lowered, unit_room, dearer_average, better, next, plain, last_step, all, to_emergency}
 use Rattle.rules.specs.Group as group
 use Rattle.rules.specs.Units.{is_unit}
-use Rattle.rules.specs.Words.{if◌then◌else◌}
+use Rattle.rules.specs.Words.{when◌then◌else◌}
 use Rattle.rules.specs.declared.Plant.{Plant}
 use Rattle.rules.specs.declared.Plant.TheVariants.{Unit as U, Purchase as P, Fixed as F}
 use Rattle.rules.specs.declared.Running.{Running}
@@ -29,7 +29,7 @@ use Rattle.ladder.specs.Ready.{Ready, AllReady, Shifted, shift_ready}
 module _ (s : Running) where
   pub unit_room_lem : (u : unit.Unit) (r : ℕ) → s.plant ≡ U u → r ≡ room last s → r ≡ unit_room s
   unfolding group.unit_room
-  unit_room_lem u r e f = f ∙ sym (ap (λ (p : Plant). if is_unit p then room last s else 0) e)
+  unit_room_lem u r e f = f ∙ sym (ap (λ (p : Plant). when is_unit p then room last s else 0) e)
 
   pub purchase_room : (g rate : ℕ) → s.plant ≡ P g rate → 0 ≡ unit_room s
   unfolding group.unit_room
@@ -41,7 +41,7 @@ module _ (s : Running) where
 
 -- The search: whether a source goes before the one found, if one was.
 abbrev pub before : Bool → Running → Running → Bool
-before found s t = ltb 0 (unit_room s) && (if found then dearer_average s t else true)
+before found s t = ltb 0 (unit_room s) && (when found then dearer_average s t else true)
 
 pub before_none : (r : ℕ) (found : Bool) (s t : Running) → r ≡ unit_room s → r ≡ 0 → false ≡ before found s t
 before_none r found s t e h = rw (le-ltb 0 (unit_room s) (omega arith))
@@ -68,18 +68,18 @@ module _ (ss : List Running) (i : ℕ) where
   next_more o e = rw (add-one i) (ap (better last_step ss i) e)
 
   -- after none
-  first_found : (t : Running) (b : Bool) → before false (state_at ss i) t ≡ b → better last_step ss i none ≡ (if b then some i else none)
+  first_found : (t : Running) (b : Bool) → before false (state_at ss i) t ≡ b → better last_step ss i none ≡ (when b then some i else none)
   unfolding better
   first_found t b e = go (ltb 0 (unit_room (state_at ss i))) e
     where
-      go : (x : Bool) → (x && true) ≡ b → (if x then some i else none) ≡ (if b then some i else none)
-      go true e = ap (λ (y : Bool). if y then some i else none) e
-      go false e = ap (λ (y : Bool). if y then some i else none) e
+      go : (x : Bool) → (x && true) ≡ b → (when x then some i else none) ≡ (when b then some i else none)
+      go true e = ap (λ (y : Bool). when y then some i else none) e
+      go false e = ap (λ (y : Bool). when y then some i else none) e
 
   -- after j
-  better_found : (j : ℕ) (t : Running) (b : Bool) → t ≡ state_at ss j → before true (state_at ss i) t ≡ b → better last_step ss i (some j) ≡ (if b then some i else some j)
+  better_found : (j : ℕ) (t : Running) (b : Bool) → t ≡ state_at ss j → before true (state_at ss i) t ≡ b → better last_step ss i (some j) ≡ (when b then some i else some j)
   unfolding better
-  better_found j t b q e = ap (λ (y : Bool). if y then some i else some j) (ap (before true (state_at ss i)) (sym q) ∙ e)
+  better_found j t b q e = ap (λ (y : Bool). when y then some i else some j) (ap (before true (state_at ss i)) (sym q) ∙ e)
 
 module _ (ss : List Running) (n : ℕ) where
   pub lead_start : (t : Running) → Lead ss n 0 n t

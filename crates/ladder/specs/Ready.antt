@@ -11,7 +11,7 @@ use Rattle.merit.specs.RemainderMoves.{Shift, down, up, shift_moved, room_open, 
 use Rattle.rules.specs.Group.{no_running, opened, remainder, level, Rung, room, headroom, headroom_of, with_open, lowered, raised}
 use Rattle.rules.specs.Refusals.{accepted}
 use Rattle.rules.specs.Units.{levelled, generation}
-use Rattle.rules.specs.Words.{if◌then◌else◌}
+use Rattle.rules.specs.Words.{when◌then◌else◌}
 use Rattle.rules.specs.declared.HeatCurve.{HeatCurve}
 use Rattle.rules.specs.declared.InternalSequence.{InternalSequence}
 use Rattle.rules.specs.declared.Plant.{Plant}
@@ -162,7 +162,7 @@ pub raised_within : (s : Running) (k : ℕ) → Ready s → k ≤ headroom s →
 unfolding headroom
 raised_within s k r h = ((shift_small r.small (up k h)).v, go s.plant r.small.plant r.high h)
   where
-    unit : (x : Bool) (a b : ℕ) → a ≤ 2000 → b ≤ 2000 → k ≤ (if x then a - b else 0) → b + k ≤ 2000
+    unit : (x : Bool) (a b : ℕ) → a ≤ 2000 → b ≤ 2000 → k ≤ (when x then a - b else 0) → b + k ≤ 2000
     unit true a b y z w = omega arith
     unit false a b y z w = omega arith
 

@@ -2,7 +2,7 @@
 use Rattle.std.specs.Prelude.{◌≡◌, refl, Bool, true, false, not, ◌&&◌, ◌||◌, ℕ}
 use Rattle.std.proofs.Math.Option.{Option, none, some}
 use Rattle.std.proofs.Common.{arith}
-use Rattle.rules.specs.Words.{if◌then◌else◌}
+use Rattle.rules.specs.Words.{when◌then◌else◌}
 use Rattle.rules.specs.Refusals.{Outcome, accepted, refused, refuse, and_then}
 use Rattle.rules.specs.Fields.{Field, got, malformed, on_field}
 use Rattle.rules.specs.declared.Refusal.{Refusal}
@@ -33,7 +33,7 @@ pub none_not_some : {A B : Type 0} (x : A) → none ≡ some x → B
 none_not_some x e = let z : ◌≡◌ {A = ℕ} 0 1 = cc in absurd (omega arith)
 
 -- what is there where only a test that passes leaves it
-pub some_passed : {A : Type 0} (b : Bool) (x : Option A) (a : A) → (if b then x else none) ≡ some a → (b ≡ true) × (x ≡ some a)
+pub some_passed : {A : Type 0} (b : Bool) (x : Option A) (a : A) → (when b then x else none) ≡ some a → (b ≡ true) × (x ≡ some a)
 some_passed true x a e = (refl, e)
 some_passed false x a e = none_not_some a e
 
@@ -66,11 +66,11 @@ pub malformed_not_got : {A B : Type 0} (v : A) (n : ℕ) → malformed ≡ got v
 malformed_not_got v n e = let z : ◌≡◌ {A = ℕ} 0 1 = cc in absurd (omega arith)
 
 -- what is got where a test that passes lets nothing through, and where only such a test does
-pub got_failed : {A : Type 0} (b : Bool) (x : Field A) (v : A) (n : ℕ) → (if b then malformed else x) ≡ got v n → (b ≡ false) × (x ≡ got v n)
+pub got_failed : {A : Type 0} (b : Bool) (x : Field A) (v : A) (n : ℕ) → (when b then malformed else x) ≡ got v n → (b ≡ false) × (x ≡ got v n)
 got_failed true x v n e = malformed_not_got v n e
 got_failed false x v n e = (refl, e)
 
-pub got_passed : {A : Type 0} (b : Bool) (x : Field A) (v : A) (n : ℕ) → (if b then x else malformed) ≡ got v n → (b ≡ true) × (x ≡ got v n)
+pub got_passed : {A : Type 0} (b : Bool) (x : Field A) (v : A) (n : ℕ) → (when b then x else malformed) ≡ got v n → (b ≡ true) × (x ≡ got v n)
 got_passed true x v n e = (refl, e)
 got_passed false x v n e = malformed_not_got v n e
 

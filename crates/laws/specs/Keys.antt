@@ -6,7 +6,7 @@ use Rattle.laws.specs.Choices.{true_not_false}
 use Rattle.laws.specs.Internal.{internal}
 use Rattle.laws.specs.Sums.{sum_to_part}
 use Rattle.rules.specs.Hour.{key_at, same_key, member, counted, goes_before, in_turn, turns}
-use Rattle.rules.specs.Words.{if◌then◌else◌, sum_to}
+use Rattle.rules.specs.Words.{when◌then◌else◌, sum_to}
 use Rattle.rules.specs.declared.Key.{Key}
 
 -- the key of a number
@@ -81,7 +81,7 @@ unfolding in_turn
 among_in_turn x [] y = refl
 among_in_turn x (z ∷ zs) y = go (same_key x z) (goes_before x z) refl (among_in_turn x zs y)
   where
-    go : (a b : Bool) → same_key x z ≡ a → among (in_turn x zs) y ≡ (same_key y x || among zs y) → among (if a then z ∷ zs else if b then x ∷ z ∷ zs else z ∷ in_turn x zs) y ≡ (same_key y x || (same_key y z || among zs y))
+    go : (a b : Bool) → same_key x z ≡ a → among (in_turn x zs) y ≡ (same_key y x || among zs y) → among (when a then z ∷ zs else when b then x ∷ z ∷ zs else z ∷ in_turn x zs) y ≡ (same_key y x || (same_key y z || among zs y))
     go true b e k = rw (key_same x z e) (or_twice (same_key y z) (among zs y))
     go false true e k = refl
     go false false e k = rw k (or_swap (same_key y z) (same_key y x) (among zs y))
@@ -91,7 +91,7 @@ unfolding in_turn Ordered
 ordered_in_turn x [] o = (λ y e. true_not_false (sym e), tt)
 ordered_in_turn x (z ∷ zs) o = go (same_key x z) (goes_before x z) refl refl (ordered_in_turn x zs o.1)
   where
-    go : (a b : Bool) → same_key x z ≡ a → goes_before x z ≡ b → Ordered (in_turn x zs) → Ordered (if a then z ∷ zs else if b then x ∷ z ∷ zs else z ∷ in_turn x zs)
+    go : (a b : Bool) → same_key x z ≡ a → goes_before x z ≡ b → Ordered (in_turn x zs) → Ordered (when a then z ∷ zs else when b then x ∷ z ∷ zs else z ∷ in_turn x zs)
     go true b e f k = o
     go false true e f k =
         let l = ltb-true z.number.0 x.number.0 f in
@@ -132,8 +132,8 @@ among_found (x ∷ xs) y e = among_either (Found (x ∷ xs) y) x xs y e (λ q. r
 -- and so has a member
 pub found_counted : (ks : List Key) (y : Key) (n : ℕ) → (f : Found ks y) → f.at < n → 0 < counted ks y n
 found_counted ks y n f l =
-    let one : ◌≡◌ {A = ℕ} (if member ks y f.at then 1 else 0) 1 = rw (f.is, key_itself y) in
-    omega (arith, one, sum_to_part (λ i. if member ks y i then 1 else 0) n f.at l)
+    let one : ◌≡◌ {A = ℕ} (when member ks y f.at then 1 else 0) 1 = rw (f.is, key_itself y) in
+    omega (arith, one, sum_to_part (λ i. when member ks y i then 1 else 0) n f.at l)
 
 -- keys to be gone through: in order, and each has a member among the first n deliveries
 pub record Turns (ks : List Key) (n : ℕ) (xs : List Key) : Type 0 where
@@ -159,6 +159,6 @@ unfolding sum_to
 counted_among ks y zero l c = absurd (omega arith)
 counted_among ks y (suc n) l c = go (member ks y n) refl c (λ d. counted_among ks y n (omega arith) d)
   where
-    go : (b : Bool) → member ks y n ≡ b → 0 < counted ks y n + (if b then 1 else 0) → (0 < counted ks y n → among ks y ≡ true) → among ks y ≡ true
+    go : (b : Bool) → member ks y n ≡ b → 0 < counted ks y n + (when b then 1 else 0) → (0 < counted ks y n → among ks y ≡ true) → among ks y ≡ true
     go true e d k = ap (among ks) (sym (key_same (key_at ks n) y e)) ∙ among_own ks n (omega arith)
     go false e d k = k (omega arith)

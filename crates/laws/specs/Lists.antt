@@ -6,7 +6,7 @@ use Rattle.std.proofs.Math.Option.{Option, none, some}
 use Prim.Native.Nat.{ℕ, zero, suc, ◌+◌, ◌<◌}
 use Rattle.std.proofs.Math.Numerals.{add-one}
 use Rattle.std.proofs.Math.Seq.{drop-append_seam}
-use Rattle.rules.specs.Words.{if◌then◌else◌, sum_to, list_to, ◌otherwise◌, find_to, same_list}
+use Rattle.rules.specs.Words.{when◌then◌else◌, sum_to, list_to, ◌otherwise◌, find_to, same_list}
 use Rattle.laws.specs.Sums.{below_suc, sum_to_same, sum_to_more}
 use Rattle.laws.specs.Choices.{false_not_true, both_true, none_not_some}
 
@@ -76,7 +76,7 @@ unfolding find_to
 find_to_passes p zero i e = none_not_some i e
 find_to_passes p (suc n) i e = go (find_to p n) refl (p n) refl e (find_to_passes p n i)
   where
-    go : (x : Option ℕ) → find_to p n ≡ x → (b : Bool) → p n ≡ b → (x otherwise (if b then some n else none)) ≡ some i
+    go : (x : Option ℕ) → find_to p n ≡ x → (b : Bool) → p n ≡ b → (x otherwise (when b then some n else none)) ≡ some i
         → (find_to p n ≡ some i → (i < n) × (p i ≡ true)) → (i < suc n) × (p i ≡ true)
     go (some j) xe b be e ih = let k = ih (xe ∙ e) in (omega arith, k.1)
     go none xe true be e ih = let k : n ≡ i = cc in (omega arith, ap p (sym k) ∙ be)
@@ -87,7 +87,7 @@ unfolding find_to
 find_to_none p zero e i lt = absurd (omega arith)
 find_to_none p (suc n) e i lt = go (find_to p n) refl (p n) refl e (find_to_none p n) i lt
   where
-    go : (x : Option ℕ) → find_to p n ≡ x → (b : Bool) → p n ≡ b → (x otherwise (if b then some n else none)) ≡ none
+    go : (x : Option ℕ) → find_to p n ≡ x → (b : Bool) → p n ≡ b → (x otherwise (when b then some n else none)) ≡ none
         → (find_to p n ≡ none → (i : ℕ) → i < n → p i ≡ false) → (i : ℕ) → i < suc n → p i ≡ false
     go (some j) xe b be e ih = none_not_some j (sym e)
     go none xe true be e ih = none_not_some n (sym e)

@@ -8,7 +8,7 @@ use borrow.Author.Tests.{ne_eqb}
 use Rattle.std.proofs.Math.Dec.{eqb}
 use Rattle.laws.specs.Sums.{div_grows, part_most}
 use Rattle.rules.specs.Group.{up_to}
-use Rattle.rules.specs.Words.{if◌then◌else◌}
+use Rattle.rules.specs.Words.{when◌then◌else◌}
 
 module _ (x size c m : ℕ) where
   pub up_to_part : 0 < x → size * m / x ≡ up_to x size c m
@@ -28,11 +28,11 @@ module _ (x size c m : ℕ) where
   unfolding up_to
   up_to_grows d k l h = go (eqb x 0)
     where
-      first : (a b : ℕ) → a ≤ b → (if eqb a 0 then 0 else size) ≤ (if eqb b 0 then 0 else size)
+      first : (a b : ℕ) → a ≤ b → (when eqb a 0 then 0 else size) ≤ (when eqb b 0 then 0 else size)
       first zero b l = omega arith
       first (suc a) b l = rw (ne_eqb (suc a) 0 (λ e. omega arith), ne_eqb b 0 (λ e. omega arith)) (omega arith)
 
-      go : (y : Bool) → (if y then (if eqb c 0 then 0 else size) else size * m / x) ≤ (if y then (if eqb d 0 then 0 else size) else size * k / x)
+      go : (y : Bool) → (when y then (when eqb c 0 then 0 else size) else size * m / x) ≤ (when y then (when eqb d 0 then 0 else size) else size * k / x)
       go true = first c d l
       go false = div_grows (size * m) (size * k) x (mul-le-mul_left size h)
 
@@ -41,7 +41,7 @@ pub up_to_nothing : (x size c m : ℕ) → size ≡ 0 → 0 ≡ up_to x size c m
 unfolding up_to
 up_to_nothing x size c m e = rw e (go (eqb x 0) (eqb c 0))
   where
-    go : (y z : Bool) → 0 ≡ (if y then (if z then 0 else 0) else 0 * m / x)
+    go : (y z : Bool) → 0 ≡ (when y then (when z then 0 else 0) else 0 * m / x)
     go true true = refl
     go true false = refl
     go false z = rw (zero-mul m, zero-div x)
@@ -56,7 +56,7 @@ pub up_to_start : (x size : ℕ) → 0 ≡ up_to x size 0 0
 unfolding up_to
 up_to_start x size = go (eqb x 0)
   where
-    go : (y : Bool) → 0 ≡ (if y then 0 else size * 0 / x)
+    go : (y : Bool) → 0 ≡ (when y then 0 else size * 0 / x)
     go true = refl
     go false = rw (mul-zero size, zero-div x)
 
@@ -65,7 +65,7 @@ pub up_to_most : (x size c m : ℕ) → m ≤ x → up_to x size c m ≤ size
 unfolding up_to
 up_to_most x size c m h = go (eqb x 0) (eqb c 0)
   where
-    go : (y z : Bool) → (if y then (if z then 0 else size) else size * m / x) ≤ size
+    go : (y z : Bool) → (when y then (when z then 0 else size) else size * m / x) ≤ size
     go true true = omega arith
     go true false = omega arith
     go false z = part_most size m x h

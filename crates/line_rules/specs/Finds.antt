@@ -3,7 +3,7 @@ use Rattle.std.specs.Prelude.{◌≡◌, refl, Bool, true, false, ◌&&◌, ◌|
 use Rattle.std.proofs.Common.{ap, sym, ◌∙◌, ⊎_elim, eq-or-lt_of_le, le_of_suc-le-suc, add-one, arith, get_or-set_same, get_or-set_other}
 use Rattle.std.proofs.Math.Option.{Option, none, some}
 use Rattle.rules.specs.Words as words
-use Rattle.rules.specs.Words.{if◌then◌else◌, all_to, any_to, ◌otherwise◌, find_to}
+use Rattle.rules.specs.Words.{when◌then◌else◌, all_to, any_to, ◌otherwise◌, find_to}
 use Rattle.laws.specs.Choices.{true_not_false}
 use Rattle.laws.specs.Lists.{find_to_none, find_to_passes}
 use Rattle.line_rules.specs.Spellings.{spot_of}
@@ -69,7 +69,7 @@ unfolding words.any_to words.find_to
 found_any p zero = refl
 found_any p (suc n) = go (find_to p n) (p n) (any_to p n) (found_any p n)
   where
-    go : (x : Option ℕ) (b a : Bool) → a ≡ is_found (spot_of x) → (a || b) ≡ is_found (spot_of (x otherwise (if b then some n else none)))
+    go : (x : Option ℕ) (b a : Bool) → a ≡ is_found (spot_of x) → (a || b) ≡ is_found (spot_of (x otherwise (when b then some n else none)))
     go none true a e = rw e
     go none false a e = rw e
     go (some i) b a e = rw e
@@ -81,7 +81,7 @@ otherwise_none (some i) = refl
 -- where at most one passes, the first that passes another test too is that one or none
 abbrev pub kept : (ℕ → Bool) → Option ℕ → Option ℕ
 kept u none = none
-kept u (some i) = if u i then some i else none
+kept u (some i) = when u i then some i else none
 
 pub find_to_both : (u p : ℕ → Bool) (n : ℕ) → ((i j : ℕ) → i < n → j < n → p i ≡ true → p j ≡ true → i ≡ j) → find_to (λ i. u i && p i) n ≡ kept u (find_to p n)
 unfolding words.find_to
@@ -91,7 +91,7 @@ find_to_both u p (suc n) one =
     (go (find_to p n) refl (u n) refl (p n) refl)
   where
     go : (x : Option ℕ) → find_to p n ≡ x → (v : Bool) → u n ≡ v → (b : Bool) → p n ≡ b
-        → (kept u x otherwise (if v && b then some n else none)) ≡ kept u (x otherwise (if b then some n else none))
+        → (kept u x otherwise (when v && b then some n else none)) ≡ kept u (x otherwise (when b then some n else none))
     go none e true ve true be = rw ve
     go none e false ve true be = rw ve
     go none e v ve false be = rw (and_false v)
@@ -99,7 +99,7 @@ find_to_both u p (suc n) one =
         let f = find_to_passes p n i e in
         let q = one i n (omega (arith, f.0)) (omega arith) f.1 be in
         absurd (omega (arith, f.0))
-    go (some i) e v ve false be = rw (and_false v) (otherwise_none (if u i then some i else none))
+    go (some i) e v ve false be = rw (and_false v) (otherwise_none (when u i then some i else none))
 
 -- All that pass, up to a number.
 

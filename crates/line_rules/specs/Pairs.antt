@@ -4,7 +4,7 @@ use Rattle.std.proofs.Math.Bool.{true, false}
 use Rattle.std.proofs.Math.Option.{Option, none, some}
 use Prim.Native.Nat.{ℕ, ◌<◌}
 use Rattle.std.proofs.Common.{arith}
-use Rattle.rules.specs.Words.{if◌then◌else◌}
+use Rattle.rules.specs.Words.{when◌then◌else◌}
 use Rattle.laws.specs.Lists.{find_to_passes}
 use Rattle.line_rules.specs.Spellings.{same_spelling, spot_of, spelling_at, spelling_to, spelling_found}
 use Rattle.line_rules.specs.Tried as tried
@@ -18,7 +18,7 @@ use Rattle.line_rules.specs.declared.Pair.TheVariants.{Both, Missing}
 
 -- the pair of two spellings that are found
 pub pair_at : (n : Counts) (x : DirectLine) (slo shi tlo thi high : List ℕ) (i j : ℕ) → spelling_to slo shi x.unit n.sources ≡ some i → spelling_to tlo thi x.delivery n.deliveries ≡ some j
-    → pair_found n x slo shi tlo thi high ≡ (if eqb (get_or high i 0) 0 then Missing else Both i j)
+    → pair_found n x slo shi tlo thi high ≡ (when eqb (get_or high i 0) 0 then Missing else Both i j)
 unfolding tried.pair_found
 pair_at n x slo shi tlo thi high i j e f = rw (e, f)
 
@@ -56,7 +56,7 @@ module _ (i j : ℕ) where
       go a (eqb (get_or high a.at 0) 0) a.goes
     where
       go : {after : ℕ → Pair} (a : Spotted slo shi n.sources x.unit after) (z : Bool)
-          → (if z then Missing else on_spot (spelling_found tlo thi n.deliveries x.delivery) (λ j. Both a.at j)) ≡ Both i j → Paired n x slo shi tlo thi i j
+          → (when z then Missing else on_spot (spelling_found tlo thi n.deliveries x.delivery) (λ j. Both a.at j)) ≡ Both i j → Paired n x slo shi tlo thi i j
       go a true e = missing_not_both e
       go a false e =
           let b = spot_both tlo thi n.deliveries x.delivery _ e in

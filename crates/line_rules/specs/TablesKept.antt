@@ -8,7 +8,7 @@ use Rattle.std.proofs.Math.Option.{Option, none, some}
 use Rattle.std.proofs.lemmas.List.{get_or-replicate}
 use Rattle.std.proofs.lemmas.Bool.{not-false}
 use Rattle.rules.specs.Words as words
-use Rattle.rules.specs.Words.{if◌then◌else◌, sum_to}
+use Rattle.rules.specs.Words.{when◌then◌else◌, sum_to}
 use Rattle.rules.specs.Ranges.{unit_level}
 use Rattle.rules.specs.Refusals.{Outcome, accepted, refused}
 use Rattle.rules.specs.Group.{no_direct}
@@ -308,10 +308,10 @@ module _ (h : Hour) (t : Tables) (k : Kept h t) (y : Direct) (room : h.ndirects 
   based_more : (i : ℕ) → i < 32 → (b : Basis) → basis_kept (with_direct h y) i b ≡ code_leaves (get_or (set t.based y.source (basis_code y.basis)) i 0) b
   based_more i l b =
       let size = k.directs_size in
-      all_to_set (λ z. if eqb z.source i then same_basis z.basis b else true) h.directs no_direct y h.ndirects (omega arith)
-      ∙ ap (λ (z : Bool). z && (if eqb y.source i then same_basis y.basis b else true)) (k.based i l b) ∙ go (eqb y.source i) refl
+      all_to_set (λ z. when eqb z.source i then same_basis z.basis b else true) h.directs no_direct y h.ndirects (omega arith)
+      ∙ ap (λ (z : Bool). z && (when eqb y.source i then same_basis y.basis b else true)) (k.based i l b) ∙ go (eqb y.source i) refl
     where
-      go : (z : Bool) → eqb y.source i ≡ z → (code_leaves (get_or t.based i 0) b && (if z then same_basis y.basis b else true))
+      go : (z : Bool) → eqb y.source i ≡ z → (code_leaves (get_or t.based i 0) b && (when z then same_basis y.basis b else true))
           ≡ code_leaves (get_or (set t.based y.source (basis_code y.basis)) i 0) b
       go true e =
           let size = k.based_size in
@@ -324,10 +324,10 @@ module _ (h : Hour) (t : Tables) (k : Kept h t) (y : Direct) (room : h.ndirects 
   percents_more : (i : ℕ) → i < 32 → percents_of (with_direct h y) i ≡ get_or (set t.percents y.source (get_or t.percents y.source 0 + y.percent)) i 0
   percents_more i l =
       let size = k.directs_size in
-      sum_to_set (λ z. if eqb z.source i then z.percent else 0) h.directs no_direct y h.ndirects (omega arith)
-      ∙ ap (λ (n : ℕ). n + (if eqb y.source i then y.percent else 0)) (k.percents i l) ∙ go (eqb y.source i) refl
+      sum_to_set (λ z. when eqb z.source i then z.percent else 0) h.directs no_direct y h.ndirects (omega arith)
+      ∙ ap (λ (n : ℕ). n + (when eqb y.source i then y.percent else 0)) (k.percents i l) ∙ go (eqb y.source i) refl
     where
-      go : (z : Bool) → eqb y.source i ≡ z → get_or t.percents i 0 + (if z then y.percent else 0)
+      go : (z : Bool) → eqb y.source i ≡ z → get_or t.percents i 0 + (when z then y.percent else 0)
           ≡ get_or (set t.percents y.source (get_or t.percents y.source 0 + y.percent)) i 0
       go true e =
           let size = k.percents_size in

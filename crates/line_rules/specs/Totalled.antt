@@ -6,7 +6,7 @@ use Rattle.std.proofs.Common.{ap, sym, ◌∙◌, add-one, arith, eqb-true}
 use Rattle.std.proofs.Math.Option.{Option, none, some}
 use Rattle.std.proofs.lemmas.Bool.{eqb-false}
 use Rattle.rules.specs.Words as words
-use Rattle.rules.specs.Words.{if◌then◌else◌, any_to}
+use Rattle.rules.specs.Words.{when◌then◌else◌, any_to}
 use Rattle.rules.specs.Answers.{verdict_of}
 use Rattle.rules.specs.Units.{generation}
 use Rattle.rules.specs.Sequences.{no_delivery, to_place}
@@ -41,9 +41,9 @@ delivery_totalled t x = record { generated = t.generated; delivered = t.delivere
 -- 10, then 11
 unfoldable pub finished_by : Counts → ℕ → Totals → Verdict
 finished_by n losses t =
-    if ltb t.generated (losses + t.delivered) then Refused Overdrawn else
-    if eqb n.deliveries 0 then Accepted else
-    if t.numbered then Accepted else
+    when ltb t.generated (losses + t.delivered) then Refused Overdrawn else
+    when eqb n.deliveries 0 then Accepted else
+    when t.numbered then Accepted else
     Refused (Unplaced (n.sources + 2))
 
 -- whether one of the first n deliveries has a number of its own

@@ -1,6 +1,6 @@
 -- Document 01, "Numbers a call may give back", 2 to 9, tried on the counts of a growing hour and on the tables kept beside it.
 use Rattle.std.specs.Prelude.{Bool, true, false, not, ◌&&◌, ◌||◌, List, ℕ, ◌+◌, ◌≤◌, leb, ltb, eqb, get_or}
-use Rattle.rules.specs.Words.{if◌then◌else◌, sum_to}
+use Rattle.rules.specs.Words.{when◌then◌else◌, sum_to}
 use Rattle.rules.specs.Refusals.{Outcome, accepted, refused, refuse, and_then}
 use Rattle.rules.specs.Units.{generation, levelled}
 use Rattle.rules.specs.Sequences.{no_delivery}
@@ -112,7 +112,7 @@ on_spot (At i) after = after i
 unfoldable pub pair_found : Counts → DirectLine → List ℕ → List ℕ → List ℕ → List ℕ → List ℕ → Pair
 pair_found n x slo shi tlo thi high =
     on_spot (spelling_found slo shi n.sources x.unit) λ i.
-    if eqb (get_or high i 0) 0 then Missing else
+    when eqb (get_or high i 0) 0 then Missing else
     on_spot (spelling_found tlo thi n.deliveries x.delivery) λ j.
     Both i j
 

@@ -5,7 +5,7 @@ use Rattle.std.proofs.Math.Path.{refl, ap, sym}
 use Rattle.std.proofs.Common.{◌∙◌, arith}
 use Rattle.std.proofs.Math.Bool.{true, false, not}
 use Rattle.std.proofs.Math.Option.{Option, none, some}
-use Rattle.rules.specs.Words.{if◌then◌else◌}
+use Rattle.rules.specs.Words.{when◌then◌else◌}
 use Rattle.rules.specs.Refusals.{Outcome, accepted, refused, refuse, and_then}
 use Rattle.rules.specs.Units.{is_unit, levelled}
 use Rattle.rules.specs.Record.{source_at, with_source, with_delivery, with_direct}
@@ -108,7 +108,7 @@ module _ (h : Hour) (t : Tables) (k : Kept h t) where
       → ((i : ℕ) → i < h.nsources → is_unit (source_at h i).plant ≡ true
       → after i ≡ and_then (on_pair (found i) (Names (line_number h)) tried) (λ y. accepted (with_direct h y)))
       → named x (Names (line_number h)) after
-      ≡ and_then (on_pair (on_spot (spot_of o) (λ i. if eqb (get_or t.high i 0) 0 then Missing else found i)) (Names (line_number h)) tried) (λ y. accepted (with_direct h y))
+      ≡ and_then (on_pair (on_spot (spot_of o) (λ i. when eqb (get_or t.high i 0) 0 then Missing else found i)) (Names (line_number h)) tried) (λ y. accepted (with_direct h y))
   unit_named_lem x none e l after found tried f = rw e
   unit_named_lem x (some i) e l after found tried f = go (eqb (get_or t.high i 0) 0) refl
     where
@@ -117,7 +117,7 @@ module _ (h : Hour) (t : Tables) (k : Kept h t) where
 
       go : (z : Bool) → eqb (get_or t.high i 0) 0 ≡ z
           → named x (Names (line_number h)) after
-          ≡ and_then (on_pair (if eqb (get_or t.high i 0) 0 then Missing else found i) (Names (line_number h)) tried) (λ y. accepted (with_direct h y))
+          ≡ and_then (on_pair (when eqb (get_or t.high i 0) 0 then Missing else found i) (Names (line_number h)) tried) (λ y. accepted (with_direct h y))
       go true z = rw (e, unit, z)
       go false z = rw (e, unit, z) (f i (l i refl) (unit ∙ ap not z))
 

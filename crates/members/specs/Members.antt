@@ -11,7 +11,7 @@ use Rattle.members.specs.Shared.{DeliveriesSmall}
 use Rattle.rules.specs.Group.{Amount, signed, up_to}
 use Rattle.rules.specs.Hour.{member, scheduled, counted}
 use Rattle.rules.specs.Sequences.{no_delivery}
-use Rattle.rules.specs.Words.{if◌then◌else◌, sum_to}
+use Rattle.rules.specs.Words.{when◌then◌else◌, sum_to}
 use Rattle.rules.specs.declared.Hour.{Hour}
 use Rattle.rules.specs.declared.Key.{Key}
 
@@ -19,14 +19,14 @@ use Rattle.rules.specs.declared.Key.{Key}
 
 -- the MWh of the group's members among the first j of the deliveries, whose MWh are ms
 abbrev pub scheduled_in : List ℕ → List Key → Key → ℕ → ℕ
-scheduled_in ms ks x j = sum_to (λ i. if member ks x i then get_or ms i 0 else 0) j
+scheduled_in ms ks x j = sum_to (λ i. when member ks x i then get_or ms i 0 else 0) j
 
 -- n deliveries' MWh, at most 64,000 together
 pub record MwhsSmall (ms : List ℕ) (n : ℕ) : Type 0 where
   pub few : n ≤ 32
   pub mwh : (j : ℕ) → j < n → get_or ms j 0 ≤ 2000
 
-member_most : (y : Bool) (m n : ℕ) → m ≤ n → (if y then m else 0) ≤ n
+member_most : (y : Bool) (m n : ℕ) → m ≤ n → (when y then m else 0) ≤ n
 member_most true m n l = l
 member_most false m n l = omega arith
 
@@ -38,20 +38,20 @@ module _ (ms : List ℕ) (ks : List Key) (x : Key) where
   scheduled_part n j l = sum_to_longer _ j n l
 
   pub scheduled_take : (j m : ℕ) → member ks x j ≡ true → m ≡ scheduled_in ms ks x j → m + get_or ms j 0 ≡ scheduled_in ms ks x (j + 1)
-  scheduled_take j m e s = sum_to_more (λ i. if member ks x i then get_or ms i 0 else 0) j m (get_or ms j 0) s (rw e)
+  scheduled_take j m e s = sum_to_more (λ i. when member ks x i then get_or ms i 0 else 0) j m (get_or ms j 0) s (rw e)
 
   pub scheduled_skip : (j m : ℕ) → member ks x j ≡ false → m ≡ scheduled_in ms ks x j → m ≡ scheduled_in ms ks x (j + 1)
-  scheduled_skip j m e s = omega (arith, sum_to_more (λ i. if member ks x i then get_or ms i 0 else 0) j m 0 s (rw e))
+  scheduled_skip j m e s = omega (arith, sum_to_more (λ i. when member ks x i then get_or ms i 0 else 0) j m 0 s (rw e))
 
 module _ (ks : List Key) (x : Key) where
   pub counted_small : (j : ℕ) → counted ks x j ≤ j
-  counted_small j = omega (arith, sum_to_bound (λ i. if member ks x i then 1 else 0) 1 j (λ i m. member_most (member ks x i) 1 1 (omega arith)))
+  counted_small j = omega (arith, sum_to_bound (λ i. when member ks x i then 1 else 0) 1 j (λ i m. member_most (member ks x i) 1 1 (omega arith)))
 
   counted_take : (j c : ℕ) → member ks x j ≡ true → c ≡ counted ks x j → c + 1 ≡ counted ks x (j + 1)
-  counted_take j c e s = sum_to_more (λ i. if member ks x i then 1 else 0) j c 1 s (rw e)
+  counted_take j c e s = sum_to_more (λ i. when member ks x i then 1 else 0) j c 1 s (rw e)
 
   counted_skip : (j c : ℕ) → member ks x j ≡ false → c ≡ counted ks x j → c ≡ counted ks x (j + 1)
-  counted_skip j c e s = omega (arith, sum_to_more (λ i. if member ks x i then 1 else 0) j c 0 s (rw e))
+  counted_skip j c e s = omega (arith, sum_to_more (λ i. when member ks x i then 1 else 0) j c 0 s (rw e))
 
 -- The rows.
 
@@ -78,7 +78,7 @@ share_in ms ks x total a k q =
 
 -- what is to stand at place q of delivery k's row, where z stood
 abbrev pub due_in : List ℕ → List Key → Key → ℕ → (ℕ → Amount) → ℕ → ℕ → ℤ → ℤ
-due_in ms ks x total a k q z = if member ks x k then share_in ms ks x total a k q else z
+due_in ms ks x total a k q z = when member ks x k then share_in ms ks x total a k q else z
 
 -- each row has what is due, and the rest stays
 pub record RowsWritten (width n : ℕ) (ms : List ℕ) (ks : List Key) (x : Key) (total : ℕ) (a : ℕ → Amount) (xs ys : List ℤ) : Type 0 where
@@ -189,7 +189,7 @@ module _ (h : Hour) (ms : List ℕ) (m : MwhsOf h ms) where
 
   module _ (ks : List Key) (x : Key) where
     pub scheduled_in_lem : (j : ℕ) → j ≤ h.ndeliveries → scheduled_in ms ks x j ≡ scheduled h ks x j
-    scheduled_in_lem j l = sum_to_same j _ _ (λ i o. ap (λ (y : ℕ). if member ks x i then y else 0) (m.mwh i (omega arith)))
+    scheduled_in_lem j l = sum_to_same j _ _ (λ i o. ap (λ (y : ℕ). when member ks x i then y else 0) (m.mwh i (omega arith)))
 
     pub total_scheduled : (total : ℕ) → total ≡ scheduled_in ms ks x h.ndeliveries → total ≡ scheduled h ks x h.ndeliveries
     total_scheduled total e = e ∙ scheduled_in_lem h.ndeliveries (omega arith)

@@ -10,7 +10,7 @@ use Rattle.merit.proofs.PricesRise.{changed_step, changed_top}
 use Rattle.merit.specs.Settled.{Less, More, less_strict, more_strict, Falling, Settled}
 use Rattle.rules.specs.Group.{level, floor, Rung, normal, oil, emergency, last, room, headroom, headroom_of, top, following, lowered, raised, plain, unloading, crediting}
 use Rattle.rules.specs.Units.{levelled, emergency_low, oil_low, normal_low, movable}
-use Rattle.rules.specs.Words.{if◌then◌else◌, sum_to}
+use Rattle.rules.specs.Words.{when◌then◌else◌, sum_to}
 use Rattle.rules.specs.declared.Plant.{Plant}
 use Rattle.rules.specs.declared.Plant.TheVariants.{Unit as U, Purchase as P, Fixed as F}
 use Rattle.rules.specs.declared.Running.{Running}
@@ -42,7 +42,7 @@ room_over : (x : Rung) (s : Running) (j : ℕ) → j < room x s → j < s.v - fl
 unfolding room
 room_over x s j = go (movable s.plant)
   where
-    go : (m : Bool) → j < (if m then s.v - floor x s else 0) → j < s.v - floor x s
+    go : (m : Bool) → j < (when m then s.v - floor x s else 0) → j < s.v - floor x s
     go true h = h
     go false h = absurd (omega arith)
 
@@ -59,7 +59,7 @@ headroom_over : (s : Running) → levelled s.plant ≡ true → 0 < headroom s �
 unfolding headroom
 headroom_over s = go s.plant
   where
-    unit : (e h l : ℕ) (y : Bool) → leb e l ≡ y → 0 < (if y then h - l else 0) → e ≤ l
+    unit : (e h l : ℕ) (y : Bool) → leb e l ≡ y → 0 < (when y then h - l else 0) → e ≤ l
     unit e h l true q m = leb-true e l q
     unit e h l false q m = absurd (omega arith)
 

@@ -7,7 +7,7 @@ use Rattle.std.proofs.lemmas.Bool.{lt-leb}
 use Rattle.laws.specs.Sums.{div_grows, part_most}
 use Rattle.rules.specs.Group.{changed}
 use Rattle.rules.specs.Units.{heat, curve_cost, cost}
-use Rattle.rules.specs.Words.{if◌then◌else◌}
+use Rattle.rules.specs.Words.{when◌then◌else◌}
 use Rattle.rules.specs.declared.HeatCurve.{HeatCurve}
 use Rattle.rules.specs.declared.Plant.{Plant}
 use Rattle.rules.specs.declared.Plant.TheVariants.{Unit as U, Purchase as P, Fixed as F}
@@ -48,11 +48,11 @@ unfolding curve_cost
 unit_starts u h = rw (lt-leb u.curve.k 0 h, mul-zero (heat u.curve u.curve.k)) (zero-div u.curve.k)
 
 -- a number over 0 is 0, so that what stands up to b is one quotient
-pub changed_is : (s : Running) (m : ℕ) → changed s m ≡ (if s.based && leb m s.b then cost s.plant s.b * m / s.b else cost s.plant m)
+pub changed_is : (s : Running) (m : ℕ) → changed s m ≡ (when s.based && leb m s.b then cost s.plant s.b * m / s.b else cost s.plant m)
 unfolding changed
-changed_is s m = ap (λ (x : ℕ). if s.based && leb m s.b then x else cost s.plant m) (go s.b)
+changed_is s m = ap (λ (x : ℕ). when s.based && leb m s.b then x else cost s.plant m) (go s.b)
   where
-    go : (b : ℕ) → (if eqb b 0 then 0 else cost s.plant b * m / b) ≡ cost s.plant b * m / b
+    go : (b : ℕ) → (when eqb b 0 then 0 else cost s.plant b * m / b) ≡ cost s.plant b * m / b
     go zero = sym (div-zero (cost s.plant 0 * m))
     go (suc b) = rw (ne_eqb (suc b) 0 (λ e. omega arith))
 
@@ -64,7 +64,7 @@ module _ (s : Running) where
       same zero e = rw (← e) (rw z (div-zero 0))
       same (suc b) e = rw (← e) (mul-div_cancel (cost s.plant (suc b)) {n = suc b} (omega arith))
 
-      go : (x y : Bool) → leb m s.b ≡ y → (if x && y then cost s.plant s.b * m / s.b else cost s.plant m) ≡ cost s.plant m
+      go : (x y : Bool) → leb m s.b ≡ y → (when x && y then cost s.plant s.b * m / s.b else cost s.plant m) ≡ cost s.plant m
       go true true e = same s.b (omega (arith, leb-true m s.b e))
       go true false e = refl
       go false y e = refl
@@ -76,7 +76,7 @@ module _ (s : Running) where
   pub changed_zero : Starts s.plant → changed s 0 ≡ 0
   changed_zero z = rw (changed_is s 0) (go s.based (leb 0 s.b))
     where
-      go : (x y : Bool) → (if x && y then cost s.plant s.b * 0 / s.b else cost s.plant 0) ≡ 0
+      go : (x y : Bool) → (when x && y then cost s.plant s.b * 0 / s.b else cost s.plant 0) ≡ 0
       go true true = rw (mul-zero (cost s.plant s.b)) (zero-div s.b)
       go true false = z
       go false y = z

@@ -9,7 +9,7 @@ use Rattle.laws.specs.Sums.{div_grows, part_most}
 use Rattle.merit.specs.ChangedFromB.{Starts, changed_under, changed_zero}
 use Rattle.rules.specs.Group.{no_running, no_direct, level, changed, charged, basis, with_basic, renewed, directed, group_line, group_lines, opened, with_open, Rung, normal, oil, emergency, last, floor, room, lowered, raised}
 use Rattle.rules.specs.Units.{curve_cost, movable}
-use Rattle.rules.specs.Words.{if◌then◌else◌, sum_to}
+use Rattle.rules.specs.Words.{when◌then◌else◌, sum_to}
 use Rattle.rules.specs.declared.Basis.{Basis}
 use Rattle.rules.specs.declared.Direct.{Direct}
 use Rattle.rules.specs.declared.Plant.{Plant}
@@ -132,7 +132,7 @@ read_set P ss a y i f g = elim (ℕ_discrete i a) [
 
 -- the percent that a line takes of source i, if the line is one of those asked for
 abbrev pub percent_of : Bool → Direct → ℕ → ℕ
-percent_of x line i = if x && eqb line.source i then line.percent else 0
+percent_of x line i = when x && eqb line.source i then line.percent else 0
 
 -- of the first k lines, those whose deliveries are asked for
 abbrev pub percents : (ℕ → Bool) → List Direct → ℕ → ℕ → ℕ
@@ -144,7 +144,7 @@ pub record Directed (p : ℕ) (s t : Running) : Type 0 where
   pub percent : t.percent ≤ s.percent + p
 
 line_directed : (x : Bool) (line : Direct) (ss : List Running) (i : ℕ) → Sound (state_at ss i) → (state_at ss i).percent + percent_of x line i ≤ 100 →
-    Directed (percent_of x line i) (state_at ss i) (state_at (if x then set ss line.source (directed (state_at ss line.source) line) else ss) i)
+    Directed (percent_of x line i) (state_at ss i) (state_at (when x then set ss line.source (directed (state_at ss line.source) line) else ss) i)
 unfolding directed
 line_directed false line ss i g h = record { took = took_none _ g; percent = omega arith }
 line_directed true line ss i g h =
@@ -183,7 +183,7 @@ pub lowered_moved : (x : Rung) (s : Running) (y : ℕ) → Sound s → y ≤ roo
 unfolding room
 lowered_moved x s y g h = record { v = s.v - y; is = refl; above = go x (movable s.plant) h }
   where
-    go : (x : Rung) (m : Bool) → y ≤ (if m then s.v - floor x s else 0) → s.b ≤ (s.v - y) + s.d
+    go : (x : Rung) (m : Bool) → y ≤ (when m then s.v - floor x s else 0) → s.b ≤ (s.v - y) + s.d
     go normal true h = omega (arith, g.above)
     go oil true h = omega (arith, g.above)
     go emergency true h = omega (arith, g.above)

@@ -7,7 +7,7 @@ use Rattle.merit.specs.LevelNeverBelowB.{Sound, Took}
 use Rattle.merit.specs.RemainderMoves.{Shift, down, up}
 use Rattle.rules.specs.Group.{level, changed, charged, opened, headroom, headroom_of}
 use Rattle.rules.specs.Units.{curve_cost, cost, generation}
-use Rattle.rules.specs.Words.{if◌then◌else◌}
+use Rattle.rules.specs.Words.{when◌then◌else◌}
 use Rattle.rules.specs.declared.HeatCurve.{HeatCurve}
 use Rattle.rules.specs.declared.Plant.{Plant}
 use Rattle.rules.specs.declared.Plant.TheVariants.{Unit as U, Purchase as P, Fixed as F}
@@ -58,7 +58,7 @@ level_small s g l = omega (arith, g.part, l.v, l.b)
 pub changed_small : (s : Running) → Small s → (m : ℕ) → m ≤ 4000 → changed s m ≤ 100_000_000_000_000
 changed_small s l m h = rw (changed_is s m) (go s.based (leb m s.b) refl)
   where
-    go : (x y : Bool) → leb m s.b ≡ y → (if x && y then cost s.plant s.b * m / s.b else cost s.plant m) ≤ 100_000_000_000_000
+    go : (x y : Bool) → leb m s.b ≡ y → (when x && y then cost s.plant s.b * m / s.b else cost s.plant m) ≤ 100_000_000_000_000
     go true true e = le_trans (part_most (cost s.plant s.b) m s.b (leb-true m s.b e)) (cost_small s.plant l.plant s.b (omega (arith, l.b)))
     go true false e = cost_small s.plant l.plant m h
     go false y e = cost_small s.plant l.plant m h
@@ -84,7 +84,7 @@ raised_small : (s : Running) → Small s → (t : ℕ) → t ≤ headroom s → 
 unfolding headroom
 raised_small s l t h = go s.plant l.plant h
   where
-    unit : (x : Bool) (a b : ℕ) → a ≤ 2000 → t ≤ (if x then a - b else 0) → s.v ≤ b → s.v + t ≤ 2000
+    unit : (x : Bool) (a b : ℕ) → a ≤ 2000 → t ≤ (when x then a - b else 0) → s.v ≤ b → s.v + t ≤ 2000
     unit true a b y z w = omega (arith, l.v)
     unit false a b y z w = omega (arith, l.v)
 

@@ -16,7 +16,7 @@ use Rattle.merit.specs.LevelNeverBelowB.{state_at}
 use Rattle.merit.specs.Settled.{bump, bump_same, bump_other}
 use Rattle.rules.specs.Group.{no_running, level, floor, Rung, normal, oil, emergency, last, room, headroom, headroom_of, with_open, lowered, raised, Way, unit_room, better, next, move, plain, unloading, last_step, crediting, all}
 use Rattle.rules.specs.Units.{movable, is_unit}
-use Rattle.rules.specs.Words.{if◌then◌else◌, sum_to}
+use Rattle.rules.specs.Words.{when◌then◌else◌, sum_to}
 use Rattle.rules.specs.declared.Plant.{Plant}
 use Rattle.rules.specs.declared.Plant.TheVariants.{Unit as U, Purchase as P, Fixed as F}
 use Rattle.rules.specs.declared.Running.{Running}
@@ -38,12 +38,12 @@ module _ (w : Way) (ss : List Running) (beats : ℕ → ℕ → Type 0) (trans :
   unfolding better
   better_found m none h = go (ltb 0 (w.room (state_at ss m))) refl
     where
-      go : (x : Bool) → ltb 0 (w.room (state_at ss m)) ≡ x → Found w ss beats (suc m) (if x then some m else none)
+      go : (x : Bool) → ltb 0 (w.room (state_at ss m)) ≡ x → Found w ss beats (suc m) (when x then some m else none)
       go true e = best_only h (ltb-true _ _ e)
       go false e = below_suc (λ j. Roomy w ss j → ⊥) m h (λ l. omega (arith, ltb-false 0 (w.room (state_at ss m)) e))
   better_found m (some a) h = go (ltb 0 (w.room (state_at ss m))) refl (w.first (state_at ss m) (state_at ss a)) refl
     where
-      go : (x : Bool) → ltb 0 (w.room (state_at ss m)) ≡ x → (y : Bool) → w.first (state_at ss m) (state_at ss a) ≡ y → Found w ss beats (suc m) (if x && y then some m else some a)
+      go : (x : Bool) → ltb 0 (w.room (state_at ss m)) ≡ x → (y : Bool) → w.first (state_at ss m) (state_at ss a) ≡ y → Found w ss beats (suc m) (when x && y then some m else some a)
       go true e true f = best_take trans h (ltb-true _ _ e) (wins m a h.in_range f)
       go true e false f = best_keep h (loses m a h.in_range f)
       go false e y f = best_skip h (λ l. omega (arith, ltb-false 0 (w.room (state_at ss m)) e))
@@ -159,7 +159,7 @@ pub lowered_room : (x : Rung) (s : Running) (k : ℕ) → room x (lowered s k) �
 unfolding room
 lowered_room x s k = go x (movable s.plant)
   where
-    go : (x : Rung) (m : Bool) → (if m then s.v - k - floor x (lowered s k) else 0) ≡ (if m then s.v - floor x s else 0) - k
+    go : (x : Rung) (m : Bool) → (when m then s.v - k - floor x (lowered s k) else 0) ≡ (when m then s.v - floor x s else 0) - k
     go normal true = omega arith
     go oil true = omega arith
     go emergency true = omega arith
@@ -183,7 +183,7 @@ pub unit_room_most : (s : Running) → unit_room s ≤ room last s
 unfolding unit_room
 unit_room_most s = go (is_unit s.plant)
   where
-    go : (b : Bool) → (if b then room last s else 0) ≤ room last s
+    go : (b : Bool) → (when b then room last s else 0) ≤ room last s
     go true = omega arith
     go false = omega arith
 
@@ -191,7 +191,7 @@ pub lowered_unit_room : (s : Running) (k : ℕ) → unit_room (lowered s k) ≡ 
 unfolding unit_room
 lowered_unit_room s k = rw (lowered_room last s k) (go (is_unit s.plant))
   where
-    go : (b : Bool) → (if b then room last s - k else 0) ≡ (if b then room last s else 0) - k
+    go : (b : Bool) → (when b then room last s - k else 0) ≡ (when b then room last s else 0) - k
     go true = refl
     go false = omega arith
 
@@ -214,7 +214,7 @@ crediting_stepwise =
       blank = refl;
     }
   where
-    unit : (e h l k : ℕ) (y : Bool) → leb e l ≡ y → k ≤ (if y then h - l else 0) → (if leb e (l + k) then h - (l + k) else 0) ≡ (if y then h - l else 0) - k
+    unit : (e h l k : ℕ) (y : Bool) → leb e l ≡ y → k ≤ (when y then h - l else 0) → (when leb e (l + k) then h - (l + k) else 0) ≡ (when y then h - l else 0) - k
     unit e h l k true q m = let z = leb-true e l q in rw (le-leb e (l + k) (omega arith)) (omega arith)
     unit e h l k false q m = let z : l + k ≡ l = omega arith in rw (z, q) (omega arith)
 

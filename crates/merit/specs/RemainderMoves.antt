@@ -13,7 +13,7 @@ use Rattle.merit.specs.PlainMoves.{Tracks, moved_by, plain_tracks, moved_by_sum,
 use Rattle.rules.specs.Group.{no_running, floor, Rung, normal, oil, emergency, last, room, headroom, with_open, lowered, raised, unit_room, plain, unloading, last_step, crediting, all, to_emergency, unload, credit, remainder}
 use Rattle.rules.specs.Refusals.{Outcome, accepted, refused}
 use Rattle.rules.specs.Units.{movable}
-use Rattle.rules.specs.Words.{if◌then◌else◌, sum_to}
+use Rattle.rules.specs.Words.{when◌then◌else◌, sum_to}
 use Rattle.rules.specs.declared.InternalSequence.{InternalSequence}
 use Rattle.rules.specs.declared.Refusal.TheVariants.{NoRoom, NoHeadroom}
 use Rattle.rules.specs.declared.Plant.{Plant}
@@ -25,7 +25,7 @@ pub room_last : (x : Rung) (s : Running) → room x s ≤ room last s
 unfolding room
 room_last x s = go x (movable s.plant)
   where
-    go : (x : Rung) (m : Bool) → (if m then s.v - floor x s else 0) ≤ (if m then s.v - floor last s else 0)
+    go : (x : Rung) (m : Bool) → (when m then s.v - floor x s else 0) ≤ (when m then s.v - floor last s else 0)
     go normal true = omega arith
     go oil true = omega arith
     go emergency true = omega arith
@@ -39,7 +39,7 @@ pub room_open : (x : Rung) (s : Running) → room x s ≤ s.v
 unfolding room
 room_open x s = go (movable s.plant)
   where
-    go : (m : Bool) → (if m then s.v - floor x s else 0) ≤ s.v
+    go : (m : Bool) → (when m then s.v - floor x s else 0) ≤ s.v
     go true = omega arith
     go false = omega arith
 
@@ -55,9 +55,9 @@ module _ (number : InternalSequence) (n : ℕ) (ss : List Running) (r : ℕ) whe
   unload_is = go (leb r (all (room normal) ss n)) refl (leb r (all (room oil) ss n)) refl (leb r (all (room emergency) ss n)) refl (leb r (all (room last) ss n)) refl
     where
       go : (a : Bool) → leb r (all (room normal) ss n) ≡ a → (b : Bool) → leb r (all (room oil) ss n) ≡ b → (c : Bool) → leb r (all (room emergency) ss n) ≡ c → (d : Bool) → leb r (all (room last) ss n) ≡ d →
-          Unloaded (if a then accepted (plain (unloading normal) n ss r) else if b then accepted (plain (unloading oil) n ss r) else
-          if c then accepted (plain (unloading emergency) n ss r) else
-          if d then accepted (plain last_step n (to_emergency ss) (r - all (room emergency) ss n)) else refused (NoRoom number))
+          Unloaded (when a then accepted (plain (unloading normal) n ss r) else when b then accepted (plain (unloading oil) n ss r) else
+          when c then accepted (plain (unloading emergency) n ss r) else
+          when d then accepted (plain last_step n (to_emergency ss) (r - all (room emergency) ss n)) else refused (NoRoom number))
       go true x b y c z d w = rung normal (λ e. let o : ◌≡◌ {A = ℕ} 0 1 = cc in omega arith) (leb-true r (all (room normal) ss n) x)
       go false x true y c z d w = rung oil (λ e. let o : ◌≡◌ {A = ℕ} 0 1 = cc in omega arith) (leb-true r (all (room oil) ss n) y)
       go false x false y true z d w = rung emergency (λ e. let o : ◌≡◌ {A = ℕ} 0 1 = cc in omega arith) (leb-true r (all (room emergency) ss n) z)
@@ -72,7 +72,7 @@ module _ (number : InternalSequence) (n : ℕ) (ss : List Running) (r : ℕ) whe
   unfolding credit
   credit_is = go (leb r (all headroom ss n)) refl
     where
-      go : (a : Bool) → leb r (all headroom ss n) ≡ a → Credited (if a then accepted (plain crediting n ss r) else refused (NoHeadroom number))
+      go : (a : Bool) → leb r (all headroom ss n) ≡ a → Credited (when a then accepted (plain crediting n ss r) else refused (NoHeadroom number))
       go true x = raising (leb-true r (all headroom ss n) x)
       go false x = no_headroom (leb-false r (all headroom ss n) x)
 
@@ -178,7 +178,7 @@ remainder_moves number n total took ts us e = go (leb took total) refl e
     opens : (i y : ℕ) → state_at us i ≡ with_open (state_at ts i) y → (state_at us i).v ≡ y
     opens i y q = ap (λ (s : Running). s.v) q
 
-    go : (y : Bool) → leb took total ≡ y → (if y then unload number n ts (total - took) else credit number n ts (took - total)) ≡ accepted us → Remaindered n total took ts us
+    go : (y : Bool) → leb took total ≡ y → (when y then unload number n ts (total - took) else credit number n ts (took - total)) ≡ accepted us → Remaindered n total took ts us
     go true l q =
         let k = unload_spread number n ts (total - took) us q in
         let t = k.t in

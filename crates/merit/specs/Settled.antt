@@ -6,7 +6,7 @@ use Rattle.std.proofs.Common.{inl, inr, sym, ap, ◌∙◌, arith, eq-eqb, ne_eq
 use Rattle.std.proofs.Math.Decide.{dec_lt, ℕ_discrete}
 use Rattle.laws.specs.Sums.{sum_to_most, sum_to_exact, sum_to_zero, sum_to_but, less_somewhere}
 use Rattle.merit.specs.Best.{Best, best_exists}
-use Rattle.rules.specs.Words.{if◌then◌else◌, sum_to}
+use Rattle.rules.specs.Words.{when◌then◌else◌, sum_to}
 
 -- a strict order in which any two numbers compare
 pub record Strict (R : ℕ → ℕ → Type 0) : Type 0 where
@@ -66,7 +66,7 @@ module _ (better first : ℕ → ℕ → Type 0) (n : ℕ) (cap : ℕ → ℕ) (
 
 -- t with one more at a place
 abbrev pub bump : ℕ → (ℕ → ℕ) → ℕ → ℕ
-bump at t i = if eqb i at then suc (t i) else t i
+bump at t i = when eqb i at then suc (t i) else t i
 
 pub bump_same : (at : ℕ) (t : ℕ → ℕ) → bump at t at ≡ suc (t at)
 bump_same at t = rw (eq-eqb at at refl)

@@ -6,7 +6,7 @@ use Rattle.std.proofs.Math.Seq.{set_out}
 use Rattle.merit.specs.LevelNeverBelowB.{Sound, state_at}
 use Rattle.merit.specs.NumbersStaySmall.{Small, level_small}
 use Rattle.rules.specs.Group.{no_running, level}
-use Rattle.rules.specs.Words.{if◌then◌else◌}
+use Rattle.rules.specs.Words.{when◌then◌else◌}
 use Rattle.rules.specs.declared.Running.{Running}
 
 -- D and level are below this, each
@@ -41,7 +41,7 @@ after x = x / standings
 
 -- where a source stood when its group began: as entry x has it, or, where it has none, as it stands at w
 unfoldable pub first_of : ℕ → Running → ℕ
-first_of x w = if eqb x 0 then standing w else before x
+first_of x w = when eqb x 0 then standing w else before x
 
 -- entry x, with a move from w to y after it
 abbrev pub moved_on : ℕ → Running → Running → ℕ

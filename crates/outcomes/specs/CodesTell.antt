@@ -29,7 +29,7 @@ use Rattle.rules.specs.Refusals.{Outcome, accepted, refused, refuse, and_then, n
 use Rattle.rules.specs.Report.{ReportLine, hour_lines, report_texts}
 use Rattle.rules.specs.Spreadsheet.{file_lines, file_text}
 use Rattle.rules.specs.Units.{levelled}
-use Rattle.rules.specs.Words.{if◌then◌else◌}
+use Rattle.rules.specs.Words.{when◌then◌else◌}
 use Rattle.rules.specs.Writing.{valid}
 use Rattle.rules.specs.declared.Basis.{Basis}
 use Rattle.rules.specs.declared.Delivery.{Delivery}
@@ -118,7 +118,7 @@ module _ (h : Hour) (w : Few h) where
   unfolding readings.finished
   finished_told = refuse_told 99 Few (ltb (generated h) (h.losses + delivered h)) Overdrawn _ (omega arith) λ a. placed_told (unplaced h) refl
 
-end_told : (h : Hour) → Few h → (b : Bool) → Read (if b then finished h else refused (Form (line_number h + 1)))
+end_told : (h : Hour) → Few h → (b : Bool) → Read (when b then finished h else refused (Form (line_number h + 1)))
 end_told h w true = finished_told h w
 end_told h w false = omega (arith, line_low h w)
 
@@ -127,7 +127,7 @@ turn_told : (s : List ℕ) (h : Hour) → Few h → (go : Hour → ℕ → Outco
 unfolding readings.taken
 turn_told s h w go t l next = pick (is_end l.letter)
   where
-    pick : (b : Bool) → Read (if b then (if eqb next (length s) then finished h else refused (Form (line_number h + 1))) else and_then (taken h l) λ after. go after next)
+    pick : (b : Bool) → Read (when b then (when eqb next (length s) then finished h else refused (Form (line_number h + 1))) else and_then (taken h l) λ after. go after next)
     pick true = end_told h w (eqb next (length s))
     pick false = then_told 99 Few Few (taken h l) (λ after. go after next) (taken_told h w l.letter l.fields) (λ after v. t after v next)
 
@@ -177,7 +177,7 @@ remainder_told : (number : InternalSequence) (n total took : ℕ) (ss : List Run
 unfolding group_rules.remainder
 remainder_told number n total took ss l = go (leb took total)
   where
-    go : (b : Bool) → Gone (if b then unload number n ss (total - took) else credit number n ss (took - total))
+    go : (b : Bool) → Gone (when b then unload number n ss (total - took) else credit number n ss (took - total))
     go true = unload_told number n ss (total - took) l _ refl
     go false = credit_told number n ss (took - total) l _ refl
 

@@ -6,7 +6,7 @@ use Rattle.std.proofs.Math.Bool.{true, false}
 use mathlib.Core.List.{List, [], ◌∷◌, ◌++◌}
 use Rattle.std.proofs.Math.Option.{Option, none, some}
 use borrow.Author.Tests.{eq-eqb, ne_eqb, leb-true, leb-false, le-leb, lt-leb, le-ltb, lt-ltb}
-use Rattle.rules.specs.Words.{if◌then◌else◌}
+use Rattle.rules.specs.Words.{when◌then◌else◌}
 use Rattle.rules.specs.Answers.{verdict_of}
 use Rattle.rules.specs.Refusals.{Outcome, accepted, refused, and_then}
 use Rattle.rules.specs.Fields.{Field, got, malformed}
@@ -47,17 +47,17 @@ stage_after stage malformed = not_due
 -- the lines from a place on, whose record is the k-th; "and one `end`", after which nothing stands
 unfoldable pub lines_from : List ℕ → ℕ → ℕ → ℕ → Outcome (List ReportLine)
 lines_from s stage k at =
-    if eqb stage ended then (if eqb at (length s) then accepted [] else refused (FileRecord k)) else
+    when eqb stage ended then (when eqb at (length s) then accepted [] else refused (FileRecord k)) else
     records_from (length s) s stage k at
 
 -- what the call comes to, of the lines that are left, which must have fewer bytes than the room
 abbrev pub judged : Outcome (List ReportLine) → ℕ → Verdict
-judged (accepted ls) room = if leb room (length (report_texts ls)) then Refused Short else Accepted
+judged (accepted ls) room = when leb room (length (report_texts ls)) then Refused Short else Accepted
 judged (refused r) room = Refused r
 
 -- A turn.
 
-stage_most : (b : Bool) (x further : ℕ) → x < not_due → (if b then some x else none) ≡ some further → further < not_due
+stage_most : (b : Bool) (x further : ℕ) → x < not_due → (when b then some x else none) ≡ some further → further < not_due
 stage_most b x further h e =
     let same = (some_passed b (some x) further e).1 in
     let k : x ≡ further = cc in
@@ -70,7 +70,7 @@ after_most stage (internal s zs) further e = stage_most (eqb stage houred || eqb
 after_most stage end further e = stage_most (eqb stage houred || eqb stage opened) ended further (omega arith) e
 after_most stage (refusal n p) further e = none_not_some further e
 
-pub stage_due : (b : Bool) (x : ℕ) → (if b then x else not_due) ≡ stage_of (if b then some x else none)
+pub stage_due : (b : Bool) (x : ℕ) → (when b then x else not_due) ≡ stage_of (when b then some x else none)
 stage_due true x = refl
 stage_due false x = refl
 
@@ -147,8 +147,8 @@ module _ (s : List ℕ) (stage k at : ℕ) (going : eqb stage ended ≡ false) w
   lines_further l p further e f = turn ∙ rw (e, f) (go (eqb further ended) (eqb p (length s)))
     where
       go : (b c : Bool)
-          → (if b then (if c then accepted (l ∷ []) else refused (FileRecord (k + 1))) else and_then (records_from (length s) s further (k + 1) p) λ ls. accepted (l ∷ ls))
-          ≡ and_then (if b then (if c then accepted [] else refused (FileRecord (k + 1))) else records_from (length s) s further (k + 1) p) (λ ls. accepted (l ∷ ls))
+          → (when b then (when c then accepted (l ∷ []) else refused (FileRecord (k + 1))) else and_then (records_from (length s) s further (k + 1) p) λ ls. accepted (l ∷ ls))
+          ≡ and_then (when b then (when c then accepted [] else refused (FileRecord (k + 1))) else records_from (length s) s further (k + 1) p) (λ ls. accepted (l ∷ ls))
       go true true = refl
       go true false = refl
       go false c = refl
@@ -201,10 +201,10 @@ non_zero (b ∷ t) e =
 pub header_non_zero : NonZero (header ++ crlf [])
 header_non_zero = non_zero (header ++ crlf []) refl
 
-fits_judged : (bytes : List ℕ) (size : ℕ) → (if leb (size + 1) (length bytes) then Refused Short else Accepted) ≡ verdict_of (into size bytes)
+fits_judged : (bytes : List ℕ) (size : ℕ) → (when leb (size + 1) (length bytes) then Refused Short else Accepted) ≡ verdict_of (into size bytes)
 fits_judged bytes size = go (leb (size + 1) (length bytes)) refl
   where
-    go : (b : Bool) → leb (size + 1) (length bytes) ≡ b → (if b then Refused Short else Accepted) ≡ verdict_of (into size bytes)
+    go : (b : Bool) → leb (size + 1) (length bytes) ≡ b → (when b then Refused Short else Accepted) ≡ verdict_of (into size bytes)
     go true e = rw (lt-ltb size (length bytes) (omega (arith, leb-true (size + 1) (length bytes) e)))
     go false e = rw (le-ltb size (length bytes) (omega (arith, leb-false (size + 1) (length bytes) e)))
 

@@ -8,7 +8,7 @@ ghost use Rattle.rules.specs.Calls.{spreadsheet_lines, leaves};
 ghost use Rattle.rules.specs.Record.{chars};
 ghost use Rattle.rules.specs.Report.{pair, internal};
 ghost use Rattle.rules.specs.Spreadsheet.{headed, houred, opened};
-ghost use Rattle.rules.specs.Words.{if◌then◌else◌};
+ghost use Rattle.rules.specs.Words.{when◌then◌else◌};
 ghost use Rattle.rules.specs.declared.Verdict.TheVariants.{Accepted};
 ghost use Rattle.rules.specs.declared.Written.TheVariants.{Count};
 ghost use Rattle.read_records.specs.Answers.{field_of};
@@ -110,7 +110,7 @@ const NOT_DUE: usize = 4;
 
 // internal: the stage where it may come
 fn due(may: bool, further: usize) -> usize
-    ensures { result ≡ (if may then further else not_due) }
+    ensures { result ≡ (when may then further else not_due) }
 {
     if may { further } else { NOT_DUE }
 }

@@ -1,6 +1,6 @@
 -- Document 01, "number outside its range" (3), of the numbers that an entry holds.
 use Rattle.std.specs.Prelude.{Bool, ◌&&◌, [], ℕ}
-use Rattle.rules.specs.Words.{if◌then◌else◌}
+use Rattle.rules.specs.Words.{when◌then◌else◌}
 use Rattle.rules.specs.Ranges.{inside, unit_level}
 use Rattle.rules.specs.Lines.{H, T, D, fields_of, ranged}
 use Rattle.rules.specs.Record.{plant_line}
@@ -38,4 +38,4 @@ unit_made x = record { g = x.g; h = x.h; n = x.n; o = x.o; e = x.e; curve = reco
 
 -- that unit, where every number is in its range
 abbrev pub judged : UnitNumbers → JudgedUnit
-judged x = if plant_inside (U (unit_made x)) then Inside (unit_made x) else Outside
+judged x = when plant_inside (U (unit_made x)) then Inside (unit_made x) else Outside

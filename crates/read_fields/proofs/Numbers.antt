@@ -7,7 +7,7 @@ use native.Mathlib.Numerals.{add-one}
 use native.Mathlib.Omega.{arith}
 use lib.ListN.{drop}
 use borrow.Author.Tests.{ne_eqb}
-use Rattle.rules.specs.Words.{if◌then◌else◌}
+use Rattle.rules.specs.Words.{when◌then◌else◌}
 use Rattle.rules.specs.Fields as fields
 use Rattle.rules.specs.Fields.{Field, got, malformed, byte, is_digit, run, number_at, basis_from, basis_at}
 use Rattle.rules.specs.declared.Basis.TheVariants.{Mwh}
@@ -31,7 +31,7 @@ module _ {A : Type 0} (answer : Field ℕ → A) (most : ℕ) (alike : (v w i : 
   run_cut (b ∷ t) v w i e = go (is_digit b) (run_cut t (v * 10 + (b - 48)) (w * 10 + (b - 48)) (suc i) (omega arith))
     where
       go : (p : Bool) → answer (run (v * 10 + (b - 48)) (suc i) t) ≡ answer (run (w * 10 + (b - 48)) (suc i) t)
-          → answer (if p then run (v * 10 + (b - 48)) (suc i) t else got v i) ≡ answer (if p then run (w * 10 + (b - 48)) (suc i) t else got w i)
+          → answer (when p then run (v * 10 + (b - 48)) (suc i) t else got v i) ≡ answer (when p then run (w * 10 + (b - 48)) (suc i) t else got w i)
       go true ih = ih
       go false ih = alike v w i e
 

@@ -9,7 +9,7 @@ use Rattle.std.proofs.Common.{sym, ◌∙◌, arith, length-drop, leb-true, leb-
 use mathlib.Core.List.{List, [], ◌∷◌}
 use Rattle.std.proofs.Math.Option.{Option, none, some}
 use Rattle.std.proofs.lemmas.Bool.{lt-leb}
-use Rattle.rules.specs.Words.{if◌then◌else◌}
+use Rattle.rules.specs.Words.{when◌then◌else◌}
 use Rattle.rules.specs.Ranges.{Range, inside}
 use Rattle.rules.specs.Fields as fields
 use Rattle.rules.specs.Fields.{Field, got, malformed, on_field, byte, byte_at, is_digit, run, number_at, label_end, Place, chars_at, is_label, spaced_number, label_from, spaced_label, basis_from, basis_at, spaced_basis}
@@ -133,7 +133,7 @@ unfolding fields.run
 run_after [] v i w n e = let k : i ≡ n = cc in omega arith
 run_after (b ∷ t) v i w n e = go (is_digit b) e (run_after t (v * 10 + (b - 48)) (suc i) w n)
   where
-    go : (p : Bool) → (if p then run (v * 10 + (b - 48)) (suc i) t else got v i) ≡ got w n → (run (v * 10 + (b - 48)) (suc i) t ≡ got w n → suc i ≤ n) → i ≤ n
+    go : (p : Bool) → (when p then run (v * 10 + (b - 48)) (suc i) t else got v i) ≡ got w n → (run (v * 10 + (b - 48)) (suc i) t ≡ got w n → suc i ≤ n) → i ≤ n
     go true e ih = omega (arith, ih e)
     go false e ih = let k : i ≡ n = cc in omega arith
 
@@ -148,7 +148,7 @@ basis_after : (s : List ℕ) (at : ℕ) (v : Basis) (n : ℕ) → basis_at s at 
 unfolding fields.basis_at
 basis_after s at v n e = go (eqb (byte s at) 76) (eqb (byte s at) 71) (number_at s at) refl e
   where
-    go : (p q : Bool) (f : Field ℕ) → number_at s at ≡ f → (if p then got Low (at + 1) else if q then got Generation (at + 1) else basis_from f) ≡ got v n → at ≤ n
+    go : (p q : Bool) (f : Field ℕ) → number_at s at ≡ f → (when p then got Low (at + 1) else when q then got Generation (at + 1) else basis_from f) ≡ got v n → at ≤ n
     go true q f fe e = let k : at + 1 ≡ n = cc in omega arith
     go false true f fe e = let k : at + 1 ≡ n = cc in omega arith
     go false false (got w m) fe e = let k : m ≡ n = cc in omega (arith, number_after s at w m fe)

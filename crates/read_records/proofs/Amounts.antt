@@ -6,7 +6,7 @@ use Prim.Native.Nat.{ℕ, zero, suc, ◌+◌, ◌-◌, ◌<◌, ◌≤◌}
 use native.Mathlib.Omega.{arith}
 use lib.IntN.{ℤ}
 use lib.ListN.{length, set, take, drop}
-use Rattle.rules.specs.Words.{if◌then◌else◌}
+use Rattle.rules.specs.Words.{when◌then◌else◌}
 use Rattle.rules.specs.Fields.{Field, got, malformed, on_field}
 use Rattle.rules.specs.Spreadsheet as spreadsheet
 use Rattle.rules.specs.Report.{ReportLine}
@@ -84,9 +84,9 @@ module _ (s : List ℕ) (at n : ℕ) (r : LastFields) (e : amounts_field n r ≡
 
 -- a line of them
 pub line_of : (n : ℕ) (r : LastFields) (line : List ℤ → ReportLine)
-    → (if r.found then got (line (take n r.amounts)) r.next else malformed) ≡ on_field (amounts_field n r) λ zs next. got (line zs) next
+    → (when r.found then got (line (take n r.amounts)) r.next else malformed) ≡ on_field (amounts_field n r) λ zs next. got (line zs) next
 line_of n r line = go r.found
   where
-    go : (b : Bool) → (if b then got (line (take n r.amounts)) r.next else malformed) ≡ on_field (if b then got (take n r.amounts) r.next else malformed) λ zs next. got (line zs) next
+    go : (b : Bool) → (when b then got (line (take n r.amounts)) r.next else malformed) ≡ on_field (when b then got (take n r.amounts) r.next else malformed) λ zs next. got (line zs) next
     go true = refl
     go false = refl

@@ -8,7 +8,7 @@ use native.Mathlib.Omega.{arith}
 use lib.Dec.{leb, eqb}
 use lib.ListN.{length, set, take, drop, length-take, length-append}
 use borrow.Author.Tests.{leb-true, ne_eqb, le-leb, lt-leb}
-use Rattle.rules.specs.Words.{if◌then◌else◌}
+use Rattle.rules.specs.Words.{when◌then◌else◌}
 use Rattle.rules.specs.Fields as fields
 use Rattle.rules.specs.Fields.{Field, got, malformed, byte, is_character, all_characters, is_label, Chars}
 use Rattle.rules.specs.Spreadsheet as spreadsheet
@@ -69,7 +69,7 @@ quoted_characters false i [] cs q e = malformed_not_got cs q e
 quoted_characters true i [] cs q e = let k : [] ≡ cs = cc in rw (sym k)
 quoted_characters false i (b ∷ t) cs q e = go (eqb b 34) (is_character b) refl e (quoted_characters true (suc i) t cs q) (quoted_characters false (suc i) t)
   where
-    go : (p k : Bool) → is_character b ≡ k → (if p then quoted true (suc i) t else if k then pushed b (quoted false (suc i) t) else malformed) ≡ got cs q
+    go : (p k : Bool) → is_character b ≡ k → (when p then quoted true (suc i) t else when k then pushed b (quoted false (suc i) t) else malformed) ≡ got cs q
         → (quoted true (suc i) t ≡ got cs q → all_characters cs ≡ true)
         → ((ds : Chars) (q : ℕ) → quoted false (suc i) t ≡ got ds q → all_characters ds ≡ true) → all_characters cs ≡ true
     go true k ke e closing more = closing e
@@ -81,7 +81,7 @@ quoted_characters false i (b ∷ t) cs q e = go (eqb b 34) (is_character b) refl
     go false false ke e closing more = malformed_not_got cs q e
 quoted_characters true i (b ∷ t) cs q e = go (eqb b 34) e (quoted_characters false (suc i) t)
   where
-    go : (p : Bool) → (if p then pushed 34 (quoted false (suc i) t) else got [] i) ≡ got cs q
+    go : (p : Bool) → (when p then pushed 34 (quoted false (suc i) t) else got [] i) ≡ got cs q
         → ((ds : Chars) (q : ℕ) → quoted false (suc i) t ≡ got ds q → all_characters ds ≡ true) → all_characters cs ≡ true
     go true e more = next (quoted false (suc i) t) refl e
       where
@@ -120,7 +120,7 @@ module _ (s : List ℕ) (at : ℕ) (bytes : List ℕ) (n p : ℕ) (size : length
       ∙ so_far
 
   pub label_closed : (next : ℕ) → character_then s (Closed next) ≡ quoted false p (drop p s)
-      → (if leb 1 n then got (take n bytes) next else malformed) ≡ judged (quoted false at (drop at s))
+      → (when leb 1 n then got (take n bytes) next else malformed) ≡ judged (quoted false at (drop at s))
   label_closed next e =
       let whole : quoted false at (drop at s) ≡ got (take n bytes) next = sym so_far ∙ ap (prefixed (take n bytes)) (sym e) ∙ rw append-nil in
       let test : is_label (take n bytes) ≡ leb 1 n = label_sized (take n bytes) (omega (arith, stored)) (quoted_characters false at (drop at s) (take n bytes) next whole) ∙ ap (leb 1) stored in

@@ -1,6 +1,6 @@
 -- What the readers' answers say, in the words of the rules' fields.
 use Rattle.std.specs.Prelude.{false, List, [], ◌∷◌, ℕ, ◌<◌, min, ℤ, take, drop}
-use Rattle.rules.specs.Words.{if◌then◌else◌}
+use Rattle.rules.specs.Words.{when◌then◌else◌}
 use Rattle.rules.specs.Fields.{Field, got, malformed, on_field, Chars, is_label}
 use Rattle.rules.specs.Record.{chars}
 use Rattle.rules.specs.Report.{ReportLine, hour, pair, internal, end}
@@ -47,15 +47,15 @@ character_then s (Closed next) = got [] next
 character_then s NoCharacter = malformed
 
 abbrev pub label_field : LabelField → Field Chars
-label_field r = if r.found then got (chars r.label) r.next else malformed
+label_field r = when r.found then got (chars r.label) r.next else malformed
 
 -- characters that are a label's
 abbrev pub judged : Field Chars → Field Chars
-judged f = on_field f λ cs next. if is_label cs then got cs next else malformed
+judged f = on_field f λ cs next. when is_label cs then got cs next else malformed
 
 -- the first n amounts
 abbrev pub amounts_field : ℕ → LastFields → Field (List ℤ)
-amounts_field n r = if r.found then got (take n r.amounts) r.next else malformed
+amounts_field n r = when r.found then got (take n r.amounts) r.next else malformed
 
 -- the line of a kind, by the fields that it has
 abbrev pub line_of : RecordKind → Label → ℤ → Label → List ℤ → ℕ → Field ReportLine

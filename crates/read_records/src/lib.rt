@@ -5,7 +5,7 @@
 ghost use Rattle.std.specs.Prelude.{◌≡◌, false, [], ◌+◌, ◌*◌, ◌≤◌, leb, take, drop};
 ghost use Rattle.rules.specs.Fields.{got, malformed as notFound, run, number_at};
 ghost use Rattle.rules.specs.Record.{label_of};
-ghost use Rattle.rules.specs.Words.{if◌then◌else◌};
+ghost use Rattle.rules.specs.Words.{when◌then◌else◌};
 ghost use Rattle.rules.specs.Spreadsheet.{amount_fields, text_at, quoted, label_at, above as aboveAt, below as belowAt, signed_at, number_field_at, numbers_at, last_fields_at, hour_at, delivery_at, internal_at, end_at, record_at};
 ghost use Rattle.read_records.specs.Answers.{NonZero, passed, cut, number_field, signed_field, character_then, label_field, judged, amounts_field, line_of, field_of};
 
@@ -241,7 +241,7 @@ fn character_at(s: &[u8], at: usize) -> Character
 // internal: the answer after the closing quote, with n characters
 fn closed(bytes: [u8; 16], n: usize, next: usize) -> LabelField
     requires { n ≤ 16 }
-    ensures { label_field result ≡ (if leb 1 n then got (take n bytes) next else notFound) }
+    ensures { label_field result ≡ (when leb 1 n then got (take n bytes) next else notFound) }
 {
     if n < 1 {
         return no_label();
@@ -364,7 +364,7 @@ fn malformed() -> Record
 
 // internal: a record of these fields, where its last ones were found
 fn ended(kind: RecordKind, delivery: Label, number: i64, source: Label, last: LastFields) -> Record
-    ensures { field_of result ≡ (if last.found then line_of kind delivery number source last.amounts last.next else notFound) }
+    ensures { field_of result ≡ (when last.found then line_of kind delivery number source last.amounts last.next else notFound) }
 {
     if !last.found {
         return malformed();

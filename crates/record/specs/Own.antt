@@ -1,6 +1,6 @@
 -- Document 01, "hour record that no deck gives" (15), as tests of the record's own places in turn: below the counts each entry let through as a deck's line would be, blanks from there on, 10 and 11.
 use Rattle.std.specs.Prelude.{Bool, true, false, not, ◌&&◌, List, ◌≡◌, ℕ, zero, suc, ◌+◌, leb, ltb, eqb, length, get_or, set, replicate}
-use Rattle.rules.specs.Words.{if◌then◌else◌, all_to}
+use Rattle.rules.specs.Words.{when◌then◌else◌, all_to}
 use Rattle.rules.specs.Answers.{verdict_of}
 use Rattle.rules.specs.Group.{no_direct}
 use Rattle.rules.specs.Sequences.{no_delivery}
@@ -28,7 +28,7 @@ accepts (Refused r) = false
 
 -- a list with v at i, if so
 abbrev pub set_if : Bool → List ℕ → ℕ → ℕ → List ℕ
-set_if so xs i v = if so then set xs i v else xs
+set_if so xs i v = when so then set xs i v else xs
 
 -- f 0, .., f (n - 1) set in a list
 unfoldable pub fill_to : {A : Type 0} → (ℕ → A) → List A → ℕ → List A
@@ -120,16 +120,16 @@ direct_own_at h k = direct_own (counts h.nsources h.ndeliveries k) (get_or h.dir
 -- Places: below the count its entry is let through, from there on it is blank.
 
 unfoldable pub source_stands : Counts → ℕ → Source → List ℕ → List ℕ → Bool
-source_stands n i x lo hi = if ltb i n.sources then source_own i x lo hi else source_blank x
+source_stands n i x lo hi = when ltb i n.sources then source_own i x lo hi else source_blank x
 
 unfoldable pub delivery_stands : Counts → ℕ → Delivery → List ℕ → List ℕ → Bool
-delivery_stands n j x lo hi = if ltb j n.deliveries then delivery_own n.sources j x lo hi else delivery_blank x
+delivery_stands n j x lo hi = when ltb j n.deliveries then delivery_own n.sources j x lo hi else delivery_blank x
 
 unfoldable pub direct_stands : Counts → ℕ → Direct → List ℕ → List ℕ → List ℕ → Bool
-direct_stands n k x high based percents = if ltb k n.directs then direct_own (counts n.sources n.deliveries k) x high based percents else direct_blank x
+direct_stands n k x high based percents = when ltb k n.directs then direct_own (counts n.sources n.deliveries k) x high based percents else direct_blank x
 
 abbrev pub stands : (ℕ → Bool) → (ℕ → Bool) → ℕ → ℕ → Bool
-stands own blank n i = if ltb i n then own i else blank i
+stands own blank n i = when ltb i n then own i else blank i
 
 abbrev pub source_stands_at : Hour → ℕ → Bool
 source_stands_at h = stands (source_own_at h.sources) (λ i. source_blank (get_or h.sources i no_source)) h.nsources

@@ -6,7 +6,7 @@ use Rattle.std.proofs.Math.Bool.{true}
 use Rattle.std.proofs.lemmas.List.{length-replicate}
 use Rattle.std.proofs.Math.Seq.{get_or-set_same}
 use borrow.Author.Tests.{lt-ltb}
-use Rattle.rules.specs.Words.{if◌then◌else◌}
+use Rattle.rules.specs.Words.{when◌then◌else◌}
 use Rattle.rules.specs.Answers.{verdict_of}
 use Rattle.rules.specs.Refusals.{Outcome, accepted, refused, refuse, and_then}
 use Rattle.rules.specs.Fields.{is_label}
@@ -223,7 +223,7 @@ direct_labelled : (h : Hour) (x : Direct) → line_labelled (direct_line h x) �
 unfolding lines.labelled
 direct_labelled h x = refl
 
-pair_if : (b : Bool) (i j : ℕ) (r : Refusal) (after : ℕ → ℕ → Outcome Direct) → on_pair (if b then Missing else Both i j) r after ≡ (if b then refused r else after i j)
+pair_if : (b : Bool) (i j : ℕ) (r : Refusal) (after : ℕ → ℕ → Outcome Direct) → on_pair (when b then Missing else Both i j) r after ≡ (when b then refused r else after i j)
 pair_if true i j r after = refl
 pair_if false i j r after = refl
 
@@ -231,7 +231,7 @@ pair_if false i j r after = refl
 module _ (line : ℕ) (x : Direct) where
   abbrev ruled : Bool → Bool → Bool → Bool → Bool → Outcome Direct
   ruled in_range full none allowed over =
-      refuse (not in_range) (Range line) (refuse full (Full line) (if none then refused (Names line) else refuse (not allowed) (OtherBasis line) (refuse over (Percents line) (accepted x))))
+      refuse (not in_range) (Range line) (refuse full (Full line) (when none then refused (Names line) else refuse (not allowed) (OtherBasis line) (refuse over (Percents line) (accepted x))))
 
   ruled_goes : (in_range full none allowed over : Bool) → (in_range && (not full && (not none && (allowed && not over)))) ≡ true → ruled in_range full none allowed over ≡ accepted x
   ruled_goes false b c d f e = false_not_true e

@@ -2,7 +2,7 @@
 use Rattle.std.specs.Prelude.{◌≡◌, refl, Bool, true, false, ◌&&◌, ◌||◌, List, ℕ, suc, ◌+◌, ◌<◌, ◌≤◌, min, ltb, get_or, set}
 use Rattle.std.proofs.Common.{ap, sym, ◌∙◌, arith, lt-ltb, le-ltb}
 use Rattle.std.proofs.Math.Decide.{dec_lt}
-use Rattle.rules.specs.Words.{if◌then◌else◌, all_to}
+use Rattle.rules.specs.Words.{when◌then◌else◌, all_to}
 use Rattle.rules.specs.Group.{no_direct}
 use Rattle.rules.specs.Sequences.{no_delivery}
 use Rattle.rules.specs.Record.{no_source, blank_source, blank_delivery}
@@ -42,12 +42,12 @@ module _ (n i : ℕ) where
   at_blank l = omega arith
 
   -- its test, by tables that are those of the entries before it
-  place_here : (r own own' blank : Bool) → r ≡ (if ltb i n then own' else blank) → (i < n → own' ≡ own) → (if ltb i n then own else blank) ≡ r
+  place_here : (r own own' blank : Bool) → r ≡ (when ltb i n then own' else blank) → (i < n → own' ≡ own) → (when ltb i n then own else blank) ≡ r
   place_here r own own' blank e same = sym (e ∙ elim (dec_lt i n) [ yes l ↦ rw (lt-ltb i n l, same l) | no l ↦ rw (le-ltb i n (omega arith)) ])
 
   -- a table: it has the entry of a place that stands
   table_on : (to : ℕ → List ℕ) (before after now : List ℕ) (r : Bool) → r ≡ true → before ≡ to (min i n) → (before ≡ to i → after ≡ to (suc i))
-      → now ≡ (if ltb i n && r then after else before) → now ≡ to (min (i + 1) n)
+      → now ≡ (when ltb i n && r then after else before) → now ≡ to (min (i + 1) n)
   table_on to before after now r is p on e = elim (dec_lt i n) [
     | yes l ↦ rw (lt-ltb i n l, is) at e ∙ on (p ∙ ap to (at_entry l).0) ∙ ap to (sym (at_entry l).1)
     | no l ↦ rw (le-ltb i n (omega arith)) at e ∙ p ∙ ap to (sym (at_blank (omega arith)))

@@ -7,7 +7,7 @@ use Prim.Native.Nat.{ℕ, zero, suc, ◌+◌}
 use Rattle.std.proofs.Math.Dec.{eqb}
 use Rattle.std.proofs.Math.ListN.{drop}
 use Rattle.std.proofs.Math.Seq.{drop-length}
-use Rattle.rules.specs.Words.{if◌then◌else◌}
+use Rattle.rules.specs.Words.{when◌then◌else◌}
 use Rattle.rules.specs.Refusals.{Outcome, accepted, refused, and_then}
 use Rattle.rules.specs.Fields.{Field, got, malformed, Chars}
 use Rattle.rules.specs.Lines as lines
@@ -92,12 +92,12 @@ module _ (s : List ℕ) (after : Hour) where
       go a.line_read a.next a.is (is_end a.line_read.letter) refl a.goes (lines_fed f)
     where
       last : (l : Line) (next : ℕ) → line_at s at ≡ got l next → is_end l.letter ≡ true → (b : Bool) → eqb next (length s) ≡ b
-          → (if b then finished h else refused (Form (line_number h + 1))) ≡ accepted after → Fed s h at after
+          → (when b then finished h else refused (Form (line_number h + 1))) ≡ accepted after → Fed s h at after
       last l next le i true be e = fed_end h at next l le i (eqb-true next (length s) be) e
       last l next le i false be e = refused_not_accepted _ after e
 
       go : (l : Line) (next : ℕ) → line_at s at ≡ got l next → (b : Bool) → is_end l.letter ≡ b
-          → (if b then (if eqb next (length s) then finished h else refused (Form (line_number h + 1))) else and_then (taken h l) λ m. lines_from f s m next) ≡ accepted after
+          → (when b then (when eqb next (length s) then finished h else refused (Form (line_number h + 1))) else and_then (taken h l) λ m. lines_from f s m next) ≡ accepted after
           → ((h : Hour) (at : ℕ) → lines_from f s h at ≡ accepted after → Fed s h at after) → Fed s h at after
       go l next le true i e ih = last l next le i (eqb next (length s)) refl e
       go l next le false i e ih =

@@ -1,7 +1,7 @@
 -- A deck that is accepted, and the writing of a valid hour, has at most 7,018 bytes.
 use Rattle.std.specs.Prelude.{◌≡◌, refl, Bool, true, false, List, [], ◌∷◌, ◌++◌, ℕ, zero, suc, ◌+◌, ◌*◌, ◌/◌, ◌%◌, ◌≤◌, ltb, length}
 use Rattle.std.proofs.Common.{subst, arith, length-append, ltb-true, ltb-false, leb-true}
-use Rattle.rules.specs.Words.{if◌then◌else◌}
+use Rattle.rules.specs.Words.{when◌then◌else◌}
 use Rattle.rules.specs.Refusals.{accepted}
 use Rattle.rules.specs.Ranges.{Range, inside}
 use Rattle.rules.specs.Fields as fields
@@ -33,7 +33,7 @@ digits_in_some : (f v : ℕ) → 1 ≤ length (digits_in (suc f) v)
 unfolding fields.digits_in
 digits_in_some f v = go (ltb v 10)
   where
-    go : (p : Bool) → 1 ≤ length (if p then (48 + v) ∷ [] else digits_in f (v / 10) ++ ((48 + v % 10) ∷ []))
+    go : (p : Bool) → 1 ≤ length (when p then (48 + v) ∷ [] else digits_in f (v / 10) ++ ((48 + v % 10) ∷ []))
     go true = omega arith
     go false = omega (arith, length-append (digits_in f (v / 10)) ((48 + v % 10) ∷ []))
 
@@ -43,7 +43,7 @@ digits_in_most zero v w h = omega arith
 digits_in_most (suc f) v w h = go (ltb v 10) refl (ltb w 10) refl (digits_in_most f (v / 10) (w / 10) (omega arith))
   where
     go : (p : Bool) → ltb v 10 ≡ p → (q : Bool) → ltb w 10 ≡ q → length (digits_in f (v / 10)) ≤ length (digits_in f (w / 10))
-        → length (if p then (48 + v) ∷ [] else digits_in f (v / 10) ++ ((48 + v % 10) ∷ [])) ≤ length (if q then (48 + w) ∷ [] else digits_in f (w / 10) ++ ((48 + w % 10) ∷ []))
+        → length (when p then (48 + v) ∷ [] else digits_in f (v / 10) ++ ((48 + v % 10) ∷ [])) ≤ length (when q then (48 + w) ∷ [] else digits_in f (w / 10) ++ ((48 + w % 10) ∷ []))
     go true pe true qe ih = omega arith
     go true pe false qe ih = omega (arith, length-append (digits_in f (w / 10)) ((48 + w % 10) ∷ []))
     go false pe true qe ih = absurd (omega (arith, ltb-false v 10 pe, ltb-true w 10 qe))
@@ -62,7 +62,7 @@ unfolding fields.escape
 escape_most [] = omega arith
 escape_most (c ∷ cs) = go (is_escaped c) (escape_most cs)
   where
-    go : (p : Bool) → length (escape cs) ≤ 2 * length cs → length (if p then 92 ∷ c ∷ escape cs else c ∷ escape cs) ≤ 2 * length (c ∷ cs)
+    go : (p : Bool) → length (escape cs) ≤ 2 * length cs → length (when p then 92 ∷ c ∷ escape cs else c ∷ escape cs) ≤ 2 * length (c ∷ cs)
     go true h = omega arith
     go false h = omega arith
 

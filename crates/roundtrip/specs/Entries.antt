@@ -3,7 +3,7 @@ use Rattle.std.specs.Prelude.{◌≡◌, refl, Bool, true, false, List, [], ◌�
 use Rattle.std.proofs.Common.{ap, subst, ◌∙◌, add-one, arith, length-set, get_or-set_same, get_or-set_other, eqb-true}
 use Rattle.std.proofs.lemmas.List.{get_or-replicate}
 use Rattle.rules.specs.Words as words
-use Rattle.rules.specs.Words.{if◌then◌else◌, sum_to}
+use Rattle.rules.specs.Words.{when◌then◌else◌, sum_to}
 use Rattle.rules.specs.Ranges.{inside, unit_level, coefficient_a, coefficient_b, coefficient_c, heat_rate, energy, purchase_rate, sequence, type, block, basis_mwh, percent}
 use Rattle.rules.specs.Units.{generation, is_unit, levelled, curve_inside}
 use Rattle.rules.specs.Sequences.{no_delivery}
@@ -186,14 +186,14 @@ delivery_given x e =
 
 -- one D line more adds its percents to its unit's
 percents_more : (h : Hour) (x : Direct) (i : ℕ) → h.ndirects < length h.directs
-    → percents_of (with_direct h x) i ≡ percents_of h i + (if eqb x.source i then x.percent else 0)
-percents_more h x i lt = sum_to_set (λ y. if eqb y.source i then y.percent else 0) h.directs no_direct x h.ndirects lt
+    → percents_of (with_direct h x) i ≡ percents_of h i + (when eqb x.source i then x.percent else 0)
+percents_more h x i lt = sum_to_set (λ y. when eqb y.source i then y.percent else 0) h.directs no_direct x h.ndirects lt
 
 percents_kept : (h : Hour) (x : Direct) (i : ℕ) → percents_of h i ≤ 100 → percents_of h x.source + x.percent ≤ 100
-    → percents_of h i + (if eqb x.source i then x.percent else 0) ≤ 100
+    → percents_of h i + (when eqb x.source i then x.percent else 0) ≤ 100
 percents_kept h x i le more = go (eqb x.source i) refl
   where
-    go : (p : Bool) → eqb x.source i ≡ p → percents_of h i + (if p then x.percent else 0) ≤ 100
+    go : (p : Bool) → eqb x.source i ≡ p → percents_of h i + (when p then x.percent else 0) ≤ 100
     go true e = subst (λ (k : ℕ). percents_of h k + x.percent ≤ 100) (eqb-true x.source i e) more
     go false e = omega arith
 

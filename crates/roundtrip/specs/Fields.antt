@@ -6,7 +6,7 @@ use Rattle.std.proofs.Common.{ap, sym, subst, ◌∙◌, append_assoc, add-one, 
 use Rattle.std.proofs.Math.Option.{Option, none, some}
 use Rattle.std.proofs.Math.ListN.{get_or-eq_default}
 use Rattle.std.proofs.Math.Seq.{take-append_seam, drop-append-add}
-use Rattle.rules.specs.Words.{if◌then◌else◌}
+use Rattle.rules.specs.Words.{when◌then◌else◌}
 use Rattle.rules.specs.Ranges.{Range, inside}
 use Rattle.rules.specs.Fields as fields
 use Rattle.rules.specs.Fields.{Field, got, malformed, on_field, byte, byte_at, number_at, digits, escape, unescape, label_end, Place, Chars, chars_at, is_label, spaced_number, label_from, spaced_label, basis_from, basis_at, spaced_basis, basis_text}
@@ -119,7 +119,7 @@ basis_stood x b s at next n i e = go (eqb (byte s at) 76) refl (eqb (byte s at) 
         byte_there s at c h ce ∙ rw (← j, ← w, t)
 
     go : (p : Bool) → eqb (byte s at) 76 ≡ p → (q : Bool) → eqb (byte s at) 71 ≡ q → (f : Field ℕ) → number_at s at ≡ f
-        → (if p then got Low (at + 1) else if q then got Generation (at + 1) else basis_from f) ≡ got b next → drop at s ≡ basis_text b ++ drop next s
+        → (when p then got Low (at + 1) else when q then got Generation (at + 1) else basis_from f) ≡ got b next → drop at s ≡ basis_text b ++ drop next s
     go true pe q qe f fe e = letter 76 Low (omega arith) refl pe e
     go false pe true qe f fe e = letter 71 Generation (omega arith) refl qe e
     go false pe false qe malformed fe e = malformed_not_got b next e

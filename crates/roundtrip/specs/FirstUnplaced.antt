@@ -6,7 +6,7 @@ use Prim.Native.Nat.{ℕ, zero, suc, ◌<◌, min}
 use Rattle.std.proofs.Math.Decide.{dec_lt}
 use native.Mathlib.Omega.{arith}
 use Rattle.std.proofs.lemmas.Bool.{not-true, not-false}
-use Rattle.rules.specs.Words.{if◌then◌else◌, ◌otherwise◌, is_none, find_to}
+use Rattle.rules.specs.Words.{when◌then◌else◌, ◌otherwise◌, is_none, find_to}
 use Rattle.rules.specs.Sequences as sequences
 use Rattle.rules.specs.Sequences.{no_delivery, to_place, joined, match, matches, before, after, rule_a, rule_b, rule_c, rule_d, rule_e, placed, numbered}
 use Rattle.rules.specs.Record.{delivery_at}
@@ -70,7 +70,7 @@ all_numbered h j e t =
     let f = find_to_passes (λ i. not (to_place (delivery_at h i))) h.ndeliveries j e in
     go (to_place t) (all_placed h.deliveries h.ndeliveries j f.0 (not-true (to_place (delivery_at h j)) f.1) t)
   where
-    go : (b : Bool) → is_none (placed h.deliveries h.ndeliveries t) ≡ false → is_none (if b then placed h.deliveries h.ndeliveries t else some (sequences.times_ten t.sequence)) ≡ false
+    go : (b : Bool) → is_none (placed h.deliveries h.ndeliveries t) ≡ false → is_none (when b then placed h.deliveries h.ndeliveries t else some (sequences.times_ten t.sequence)) ≡ false
     go true k = k
     go false k = refl
 

@@ -12,7 +12,7 @@ use Prim.Native.Nat.{ℕ, suc, ◌+◌, ◌-◌, ◌<◌, ◌≤◌}
 use native.Mathlib.Omega.{arith}
 use Rattle.std.proofs.Math.ListN.{length}
 use Rattle.std.proofs.Math.Seq.{take-append_seam}
-use Rattle.rules.specs.Words.{if◌then◌else◌}
+use Rattle.rules.specs.Words.{when◌then◌else◌}
 use Rattle.rules.specs.Fields as fields
 use Rattle.rules.specs.Fields.{is_character, is_escaped, escape, unescape, closed, closing, label_end, Chars, all_characters, is_label}
 use Rattle.rules.specs.Record.{chars, label_of, same_label}
@@ -26,7 +26,7 @@ unfolding fields.escape fields.unescape
 unescape_escape [] = refl
 unescape_escape (c ∷ cs) = go (is_escaped c) refl (unescape_escape cs)
   where
-    go : (p : Bool) → is_escaped c ≡ p → unescape false (escape cs) ≡ cs → unescape false (if p then 92 ∷ c ∷ escape cs else c ∷ escape cs) ≡ c ∷ cs
+    go : (p : Bool) → is_escaped c ≡ p → unescape false (escape cs) ≡ cs → unescape false (when p then 92 ∷ c ∷ escape cs else c ∷ escape cs) ≡ c ∷ cs
     go true e ih = ap (λ (l : Chars). c ∷ l) ih
     go false e ih = rw ((either_false (eqb c 34) (eqb c 92) e).1, ih)
 
@@ -63,7 +63,7 @@ unfolding fields.escape
 label_some [] e = absurd (omega (arith, leb-true 1 0 (label_from_lem [] e).some))
 label_some (c ∷ cs) e = go (is_escaped c)
   where
-    go : (b : Bool) → 1 ≤ length (if b then 92 ∷ c ∷ escape cs else c ∷ escape cs)
+    go : (b : Bool) → 1 ≤ length (when b then 92 ∷ c ∷ escape cs else c ∷ escape cs)
     go true = omega arith
     go false = omega arith
 
@@ -86,7 +86,7 @@ closing_escape (c ∷ cs) rest n i a =
   where
     go : is_character c ≡ true → (p : Bool) → is_escaped c ≡ p
         → ((j : ℕ) → closing false (suc n) j (escape cs ++ (34 ∷ rest)) ≡ closed (suc n + length cs) (j + length (escape cs)))
-        → closing false n i ((if p then 92 ∷ c ∷ escape cs else c ∷ escape cs) ++ (34 ∷ rest)) ≡ closed (n + suc (length cs)) (i + length (if p then 92 ∷ c ∷ escape cs else c ∷ escape cs))
+        → closing false n i ((when p then 92 ∷ c ∷ escape cs else c ∷ escape cs) ++ (34 ∷ rest)) ≡ closed (n + suc (length cs)) (i + length (when p then 92 ∷ c ∷ escape cs else c ∷ escape cs))
     go k true e ih = rw e (ih (suc (suc i)) ∙ closed_same (suc n + length cs) (n + suc (length cs)) (suc (suc i) + length (escape cs)) (i + suc (suc (length (escape cs)))) (omega arith) (omega arith))
     go k false e ih =
         let f = either_false (eqb c 34) (eqb c 92) e in
@@ -143,11 +143,11 @@ module _ (b n i z : ℕ) (t : Chars) where
       let m : n + suc (length f.cs) ≡ suc n + length f.cs = omega arith in
       record { cs = b ∷ f.cs; rest = f.rest; text = rw is (text_is p); place = rw is (place_is p); some = rw m f.some; few = rw m f.few; all = rw k f.all }
     where
-      text_is : (p : Bool) → lead p (b ∷ t) ≡ (if p then 92 ∷ b ∷ escape f.cs else b ∷ escape f.cs) ++ (34 ∷ f.rest)
+      text_is : (p : Bool) → lead p (b ∷ t) ≡ (when p then 92 ∷ b ∷ escape f.cs else b ∷ escape f.cs) ++ (34 ∷ f.rest)
       text_is true = ap (λ (l : Chars). 92 ∷ b ∷ l) f.text
       text_is false = ap (λ (l : Chars). b ∷ l) f.text
 
-      place_is : (p : Bool) → z + ahead p ≡ i + length (if p then 92 ∷ b ∷ escape f.cs else b ∷ escape f.cs)
+      place_is : (p : Bool) → z + ahead p ≡ i + length (when p then 92 ∷ b ∷ escape f.cs else b ∷ escape f.cs)
       place_is true = omega (arith, f.place)
       place_is false = omega (arith, f.place)
 
@@ -167,7 +167,7 @@ found (b ∷ t) true n i z h =
 found (b ∷ t) false n i z h = go (eqb b 34) refl (eqb b 92) refl h (found t true n (suc i) z) (found t false (suc n) (suc i) z)
   where
     go : (q : Bool) → eqb b 34 ≡ q → (s : Bool) → eqb b 92 ≡ s
-        → (if q then closed n i else if s then closing true n (suc i) t else if is_character b then closing false (suc n) (suc i) t else none) ≡ some z
+        → (when q then closed n i else when s then closing true n (suc i) t else when is_character b then closing false (suc n) (suc i) t else none) ≡ some z
         → (closing true n (suc i) t ≡ some z → Found true n (suc i) t z) → (closing false (suc n) (suc i) t ≡ some z → Found false (suc n) (suc i) t z) → Found false n i (b ∷ t) z
     go true qe s se h opened plain = rw (eqb-true b 34 qe) (found_quote n i z t h)
     go false qe true se h opened plain = rw (eqb-true b 92 se) (found_backslash n i z t (opened h))

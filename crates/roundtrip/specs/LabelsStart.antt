@@ -8,7 +8,7 @@ use mathlib.Core.List.{List, [], ◌∷◌, ◌++◌}
 use Rattle.std.proofs.Math.Option.{Option, none, some}
 use native.Mathlib.Omega.{arith}
 use Rattle.std.proofs.Math.ListN.{length, drop}
-use Rattle.rules.specs.Words.{if◌then◌else◌}
+use Rattle.rules.specs.Words.{when◌then◌else◌}
 use Rattle.rules.specs.Ranges.{Range, inside}
 use Rattle.rules.specs.Fields as fields
 use Rattle.rules.specs.Fields.{Field, got, on_field, byte, byte_at, digits_in, digits, basis_text, number_at, basis_at, is_escaped, escape, all_characters, is_label, label_end, label_from, Chars, Place, spaced_number, spaced_label, spaced_basis}
@@ -51,7 +51,7 @@ unfolding places.past
 past_within b [] = omega arith
 past_within b (x ∷ xs) = go (eqb x b) (past_within b xs)
   where
-    go : (p : Bool) → past b xs ≤ length xs → (if p then 1 else suc (past b xs)) ≤ suc (length xs)
+    go : (p : Bool) → past b xs ≤ length xs → (when p then 1 else suc (past b xs)) ≤ suc (length xs)
     go true h = omega arith
     go false h = omega (arith, h)
 
@@ -66,7 +66,7 @@ unfolding fields.digits_in
 digits_in_free b h zero v = tt
 digits_in_free b h (suc f) v = go (ltb v 10) (digits_in_free b h f (v / 10))
   where
-    go : (p : Bool) → Free b (digits_in f (v / 10)) → Free b (if p then (48 + v) ∷ [] else digits_in f (v / 10) ++ ((48 + v % 10) ∷ []))
+    go : (p : Bool) → Free b (digits_in f (v / 10)) → Free b (when p then (48 + v) ∷ [] else digits_in f (v / 10) ++ ((48 + v % 10) ∷ []))
     go true ih = (λ e. omega arith, tt)
     go false ih = free_append b (digits_in f (v / 10)) ((48 + v % 10) ∷ []) ih (λ e. omega arith, tt)
 
@@ -87,7 +87,7 @@ escape_free (c ∷ cs) e =
     let q = leb-true 32 c (both_true (leb 32 c) (leb c 126) p.0).0 in
     go (is_escaped c) q (escape_free cs p.1)
   where
-    go : (b : Bool) → 32 ≤ c → Free 10 (escape cs) → Free 10 (if b then 92 ∷ c ∷ escape cs else c ∷ escape cs)
+    go : (b : Bool) → 32 ≤ c → Free 10 (escape cs) → Free 10 (when b then 92 ∷ c ∷ escape cs else c ∷ escape cs)
     go true q ih = (λ e. omega arith, (λ e. omega arith, ih))
     go false q ih = (λ e. omega arith, ih)
 

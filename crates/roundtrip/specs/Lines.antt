@@ -6,7 +6,7 @@ use Rattle.std.proofs.Math.Path.{refl}
 use Rattle.std.proofs.Common.{ap, sym, subst, ◌∙◌, length-drop}
 use Rattle.std.proofs.Math.Option.{Option, none, some}
 use native.Mathlib.Omega.{arith}
-use Rattle.rules.specs.Words.{if◌then◌else◌}
+use Rattle.rules.specs.Words.{when◌then◌else◌}
 use Rattle.rules.specs.Fields.{Field, got, malformed, on_field, byte, byte_at, Place, Chars}
 use Rattle.rules.specs.Lines as lines
 use Rattle.rules.specs.Lines.{Letter, H, U, P, F, T, D, E, fields_of, Fields, fields_at, seen, written, ranged, labelled, byte_of, letter_of, Line, line, places_at, line_from, line_at, line_text}
@@ -49,11 +49,11 @@ unfolding lines.letter_of
 letter_byte b l e =
     test H (test U (test P (test F (test T (test D (test E (none_not_some l))))))) e
   where
-    test : (k : Letter) {rest : Option Letter} → (rest ≡ some l → eqb b (byte_of l) ≡ true) → (if eqb b (byte_of k) then some k else rest) ≡ some l
+    test : (k : Letter) {rest : Option Letter} → (rest ≡ some l → eqb b (byte_of l) ≡ true) → (when eqb b (byte_of k) then some k else rest) ≡ some l
         → eqb b (byte_of l) ≡ true
     test k {rest} after e = go (eqb b (byte_of k)) refl e
       where
-        go : (p : Bool) → eqb b (byte_of k) ≡ p → (if p then some k else rest) ≡ some l → eqb b (byte_of l) ≡ true
+        go : (p : Bool) → eqb b (byte_of k) ≡ p → (when p then some k else rest) ≡ some l → eqb b (byte_of l) ≡ true
         go true pe e = let q : k ≡ l = cc in ap (λ (k : Letter). eqb b (byte_of k)) (sym q) ∙ pe
         go false pe e = after e
 

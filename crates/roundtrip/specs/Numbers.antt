@@ -11,7 +11,7 @@ use Rattle.std.proofs.Math.Nat.{pow-suc}
 use Rattle.std.proofs.Math.Dec.{ltb}
 use Rattle.std.proofs.Math.ListN.{get_or-append}
 use borrow.Author.Tests.{le-ltb, lt-ltb, ltb-true, ltb-false, leb-true, le-leb, eq-eqb, ne_eqb}
-use Rattle.rules.specs.Words.{if◌then◌else◌}
+use Rattle.rules.specs.Words.{when◌then◌else◌}
 use Rattle.rules.specs.Fields as fields
 use Rattle.rules.specs.Fields.{Field, got, malformed, byte, is_digit, run, number_at, digits_in, digits}
 use Rattle.laws.specs.Choices.{true_not_false, both_true, not_false, got_failed}
@@ -49,7 +49,7 @@ module _ (P : ℕ → List ℕ → Type 0) (one : (v : ℕ) → v < 10 → P v (
   digits_in_lem (suc f) v h = go (ltb v 10) refl (λ k. digits_in_lem f (v / 10) (let j = simp pow-suc at h in omega arith))
     where
       go : (p : Bool) → ltb v 10 ≡ p → (10 ≤ v → P (v / 10) (digits_in (suc f) (v / 10)))
-          → P v (if p then (48 + v) ∷ [] else digits_in (suc f) (v / 10) ++ ((48 + v % 10) ∷ []))
+          → P v (when p then (48 + v) ∷ [] else digits_in (suc f) (v / 10) ++ ((48 + v % 10) ∷ []))
       go true e k = one v (ltb-true v 10 e)
       go false e k = more v (digits_in (suc f) (v / 10)) (ltb-false v 10 e) (k (ltb-false v 10 e))
 
@@ -65,7 +65,7 @@ digits_one v h = simp (lt-ltb v 10 h)
 digits_enough : (f v : ℕ) → v < 10 ^ suc f → digits_in (suc f) v ≡ digits_in (suc (suc f)) v
 unfolding fields.digits_in
 digits_enough zero v h = rw (lt-ltb v 10 h)
-digits_enough (suc f) v h = ap (λ (l : List ℕ). if ltb v 10 then (48 + v) ∷ [] else l ++ ((48 + v % 10) ∷ [])) (digits_enough f (v / 10) (let k = simp pow-suc at h in omega arith))
+digits_enough (suc f) v h = ap (λ (l : List ℕ). when ltb v 10 then (48 + v) ∷ [] else l ++ ((48 + v % 10) ∷ [])) (digits_enough f (v / 10) (let k = simp pow-suc at h in omega arith))
 
 pub digits_more : (v : ℕ) → 10 ≤ v → v < 2 ^ 64 → digits v ≡ digits (v / 10) ++ ((48 + v % 10) ∷ [])
 unfolding fields.digits fields.digits_in
@@ -108,8 +108,8 @@ writes v h = digits_by Writes writes_one writes_more v h
 -- a number in front of a list, read at the place at
 abbrev number_in : ℕ → List ℕ → Field ℕ
 number_in at l =
-    if not (is_digit (get_or l 0 0)) then malformed else
-    if eqb (get_or l 0 0) 48 && is_digit (get_or l 1 0) then malformed else
+    when not (is_digit (get_or l 0 0)) then malformed else
+    when eqb (get_or l 0 0) 48 && is_digit (get_or l 1 0) then malformed else
     run 0 at l
 
 number_in_lem : (s l : List ℕ) (at : ℕ) → drop at s ≡ l → number_at s at ≡ number_in at l

@@ -3,7 +3,7 @@ use Rattle.std.specs.Prelude.{◌≡◌, ◌↔◌, true, ℕ, eqb, get_or, drop
 use Rattle.std.proofs.Math.Path.{refl, ap, sym}
 use Rattle.std.proofs.Common.{◌∙◌}
 use mathlib.Core.List.{List, [], ◌∷◌}
-use Rattle.rules.specs.Words.{if◌then◌else◌, same_list}
+use Rattle.rules.specs.Words.{when◌then◌else◌, same_list}
 use Rattle.rules.specs.Writing as writing
 use Rattle.rules.specs.Writing.{plant_numbers, source_numbers, delivery_numbers, basis_numbers, direct_numbers, count_numbers, same_by, same_hour}
 use Rattle.rules.specs.declared.Label.{Label}
@@ -28,9 +28,9 @@ label_from l = record { len = nth l 0; bytes = drop 1 l }
 
 abbrev source_from : List ℕ → Source
 source_from l =
-    if eqb (nth l 0) 0
+    when eqb (nth l 0) 0
     then record { plant = U (record { g = nth l 1; h = nth l 2; n = nth l 3; o = nth l 4; e = nth l 5; curve = record { k = nth l 6; a = nth l 7; b = nth l 8; c = nth l 9; r = nth l 10 } }); label = label_from (drop 11 l) }
-    else if eqb (nth l 0) 1
+    else when eqb (nth l 0) 1
     then record { plant = P (nth l 1) (nth l 2); label = label_from (drop 3 l) }
     else record { plant = F (nth l 1); label = label_from (drop 2 l) }
 
@@ -44,8 +44,8 @@ delivery_from l = record { sequence = record { 0 = nth l 0 }; kind = nth l 1; bl
 
 abbrev direct_from : List ℕ → Direct
 direct_from l =
-    if eqb (nth l 0) 0 then record { basis = Low; percent = nth l 1; source = nth l 2; delivery = nth l 3 } else
-    if eqb (nth l 0) 1 then record { basis = Generation; percent = nth l 1; source = nth l 2; delivery = nth l 3 } else
+    when eqb (nth l 0) 0 then record { basis = Low; percent = nth l 1; source = nth l 2; delivery = nth l 3 } else
+    when eqb (nth l 0) 1 then record { basis = Generation; percent = nth l 1; source = nth l 2; delivery = nth l 3 } else
     record { basis = Mwh (nth l 1); percent = nth l 2; source = nth l 3; delivery = nth l 4 }
 
 direct_from_lem : (b : Basis) (p s d : ℕ) → direct_from (basis_numbers b (p ∷ s ∷ d ∷ [])) ≡ record { basis = b; percent = p; source = s; delivery = d }

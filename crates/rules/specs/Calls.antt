@@ -1,6 +1,6 @@
 -- Document 01, "Numbers a call may give back", and document 02, item 1: what the calls come to, and what they leave in lent memory.
 use Rattle.std.specs.Prelude.{not, List, [], ◌++◌, ℕ, ltb, length, drop, ℤ}
-use Rattle.rules.specs.Words.{if◌then◌else◌}
+use Rattle.rules.specs.Words.{when◌then◌else◌}
 use Rattle.rules.specs.Refusals.{Outcome, accepted, refused, refuse, and_then}
 use Rattle.rules.specs.Fields.{escape}
 use Rattle.rules.specs.Hour.{cell_count, reconstructed, answer}
@@ -68,11 +68,11 @@ leaves (refused r) buffer = buffer
 -- "A label asked of an accepted deck comes back as a part of that deck, at the label's own bytes between the quotes, escapes unread.
 -- For an entry the deck lacks, or a refused deck, the part is empty"
 abbrev pub source_part_of : Outcome Hour → ℕ → List ℕ
-source_part_of (accepted h) i = if ltb i h.nsources then escape (chars (source_at h i).label) else []
+source_part_of (accepted h) i = when ltb i h.nsources then escape (chars (source_at h i).label) else []
 source_part_of (refused r) i = []
 
 abbrev pub delivery_part_of : Outcome Hour → ℕ → List ℕ
-delivery_part_of (accepted h) j = if ltb j h.ndeliveries then escape (chars (delivery_at h j).label) else []
+delivery_part_of (accepted h) j = when ltb j h.ndeliveries then escape (chars (delivery_at h j).label) else []
 delivery_part_of (refused r) j = []
 
 unfoldable pub source_part : List ℕ → ℕ → List ℕ

@@ -1,7 +1,7 @@
 -- Document 01, "The deck": numbers, labels and bases as bytes, read at a place and written.
 use Rattle.std.specs.Prelude.{Bool, true, false, not, ◌&&◌, ◌||◌, List, [], ◌∷◌, ◌++◌, ℕ, zero, suc, ◌+◌, ◌-◌, ◌*◌, ◌/◌, ◌%◌, leb, ltb, eqb, length, get_or, take, drop}
 use Rattle.std.proofs.Math.Option.{Option, none, some}
-use Rattle.rules.specs.Words.{if◌then◌else◌}
+use Rattle.rules.specs.Words.{when◌then◌else◌}
 use Rattle.rules.specs.declared.Basis.{Basis}
 use Rattle.rules.specs.declared.Basis.TheVariants.{Low, Generation, Mwh}
 
@@ -20,7 +20,7 @@ byte s at = get_or s at 0
 
 -- one byte that must stand there
 unfoldable pub byte_at : List ℕ → ℕ → ℕ → Field (Unit {0})
-byte_at s at b = if eqb (byte s at) b then got tt (at + 1) else malformed
+byte_at s at b = when eqb (byte s at) b then got tt (at + 1) else malformed
 
 -- Numbers: "decimal, without leading zeros".
 
@@ -30,19 +30,19 @@ is_digit b = leb 48 b && leb b 57
 -- the run of digits that a list starts with, read on from the value v at the place i
 unfoldable pub run : ℕ → ℕ → List ℕ → Field ℕ
 run v i [] = got v i
-run v i (b ∷ t) = if is_digit b then run (v * 10 + (b - 48)) (suc i) t else got v i
+run v i (b ∷ t) = when is_digit b then run (v * 10 + (b - 48)) (suc i) t else got v i
 
 -- "Any run of digits without a leading zero has the form"
 unfoldable pub number_at : List ℕ → ℕ → Field ℕ
 number_at s at =
-    if not (is_digit (byte s at)) then malformed else
-    if eqb (byte s at) 48 && is_digit (byte s (at + 1)) then malformed else
+    when not (is_digit (byte s at)) then malformed else
+    when eqb (byte s at) 48 && is_digit (byte s (at + 1)) then malformed else
     run 0 at (drop at s)
 
 -- the last f digits at most
 unfoldable pub digits_in : ℕ → ℕ → List ℕ
 digits_in zero v = []
-digits_in (suc f) v = if ltb v 10 then (48 + v) ∷ [] else digits_in f (v / 10) ++ ((48 + v % 10) ∷ [])
+digits_in (suc f) v = when ltb v 10 then (48 + v) ∷ [] else digits_in f (v / 10) ++ ((48 + v % 10) ∷ [])
 
 -- all of them: a number below 2^64 has at most 20 (roundtrip/Numbers, digits-more)
 unfoldable pub digits : ℕ → List ℕ
@@ -60,31 +60,31 @@ is_escaped c = eqb c 34 || eqb c 92
 
 unfoldable pub escape : List ℕ → List ℕ
 escape [] = []
-escape (c ∷ cs) = if is_escaped c then 92 ∷ c ∷ escape cs else c ∷ escape cs
+escape (c ∷ cs) = when is_escaped c then 92 ∷ c ∷ escape cs else c ∷ escape cs
 
 -- the characters that bytes between the quotes stand for, and in the last case those after a backslash
 unfoldable pub unescape : Bool → List ℕ → List ℕ
 unescape e [] = []
-unescape false (b ∷ t) = if eqb b 92 then unescape true t else b ∷ unescape false t
+unescape false (b ∷ t) = when eqb b 92 then unescape true t else b ∷ unescape false t
 unescape true (b ∷ t) = b ∷ unescape false t
 
 -- "1 to 16 characters"
 abbrev pub closed : ℕ → ℕ → Option ℕ
-closed n i = if leb 1 n && leb n 16 then some i else none
+closed n i = when leb 1 n && leb n 16 then some i else none
 
 -- where the closing quote stands, read on at the index i after n characters, and in the second case after a backslash
 unfoldable pub closing : Bool → ℕ → ℕ → List ℕ → Option ℕ
 closing e n i [] = none
-closing true n i (b ∷ t) = if is_escaped b then closing false (suc n) (suc i) t else none
+closing true n i (b ∷ t) = when is_escaped b then closing false (suc n) (suc i) t else none
 closing false n i (b ∷ t) =
-    if eqb b 34 then closed n i else
-    if eqb b 92 then closing true n (suc i) t else
-    if is_character b then closing false (suc n) (suc i) t else none
+    when eqb b 34 then closed n i else
+    when eqb b 92 then closing true n (suc i) t else
+    when is_character b then closing false (suc n) (suc i) t else none
 
 -- "between double quotes": where it stands in a part that starts with the opening quote
 unfoldable pub label_end : List ℕ → Option ℕ
 label_end [] = none
-label_end (b ∷ t) = if eqb b 34 then closing false 0 1 t else none
+label_end (b ∷ t) = when eqb b 34 then closing false 0 1 t else none
 
 -- where a label's own bytes stand
 pub record Place : Type 0 where
@@ -129,8 +129,8 @@ basis_from malformed = malformed
 
 unfoldable pub basis_at : List ℕ → ℕ → Field Basis
 basis_at s at =
-    if eqb (byte s at) 76 then got Low (at + 1) else
-    if eqb (byte s at) 71 then got Generation (at + 1) else
+    when eqb (byte s at) 76 then got Low (at + 1) else
+    when eqb (byte s at) 71 then got Generation (at + 1) else
     basis_from (number_at s at)
 
 unfoldable pub spaced_basis : List ℕ → ℕ → Field Basis

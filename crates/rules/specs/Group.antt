@@ -1,7 +1,7 @@
 -- Document 01, "One group".
 use Rattle.std.specs.Prelude.{Bool, true, false, ◌&&◌, List, map, ℕ, zero, suc, ◌+◌, ◌-◌, ◌*◌, ◌/◌, min, max, leb, ltb, eqb, get_or, set, ℤ, pos, neg_ℤ}
 use Rattle.std.proofs.Math.Option.{Option, none, some}
-use Rattle.rules.specs.Words.{if◌then◌else◌, sum_to}
+use Rattle.rules.specs.Words.{when◌then◌else◌, sum_to}
 use Rattle.rules.specs.Refusals.{Outcome, accepted, refused}
 use Rattle.rules.specs.Units.{cost, generation, normal_low, oil_low, emergency_low, movable, is_unit}
 use Rattle.rules.specs.declared.Unit.{Unit}
@@ -34,11 +34,11 @@ level s = s.v + s.d
 
 -- "W(b)·m/b rounded down, 0 for b = 0"
 abbrev pub prorated : Running → ℕ → ℕ
-prorated s m = if eqb s.b 0 then 0 else cost s.plant s.b * m / s.b
+prorated s m = when eqb s.b 0 then 0 else cost s.plant s.b * m / s.b
 
 -- W as changed: "From then W(m) for m <= b is replaced"
 unfoldable pub changed : Running → ℕ → ℕ
-changed s m = if s.based && leb m s.b then prorated s m else cost s.plant m
+changed s m = when s.based && leb m s.b then prorated s m else cost s.plant m
 
 -- Direct.
 
@@ -50,7 +50,7 @@ basis (Mwh x) p = x
 
 -- "At a unit's first: b = the lesser of v and the basis"
 abbrev pub basic : Running → Basis → ℕ
-basic s x = if s.based then s.b else min s.v (basis x s.plant)
+basic s x = when s.based then s.b else min s.v (basis x s.plant)
 
 -- the unit with its b set
 abbrev pub based_on : Running → ℕ → Running
@@ -83,7 +83,7 @@ charged s = changed s s.d
 -- a D line, if its delivery is a member of the group
 unfoldable pub group_line : (ℕ → Bool) → Direct → List Running → List Running
 group_line member line ss =
-    if member line.delivery then set ss line.source (directed (get_or ss line.source no_running) line) else ss
+    when member line.delivery then set ss line.source (directed (get_or ss line.source no_running) line) else ss
 
 -- "The group's D lines in deck order": the first k lines
 unfoldable pub group_lines : (ℕ → Bool) → List Direct → List Running → ℕ → List Running
@@ -105,7 +105,7 @@ floor last s = s.b - s.d
 
 -- "Room is v less floor, or 0 where v is below it"; "F: never moved"
 unfoldable pub room : Rung → Running → ℕ
-room x s = if movable s.plant then s.v - floor x s else 0
+room x s = when movable s.plant then s.v - floor x s else 0
 
 -- The plain rule, for unloading, the last step and credit alike.
 
@@ -119,8 +119,8 @@ pub record Way : Type 0 where
 
 -- of an earlier choice and source i, the one to move
 unfoldable pub better : Way → List Running → ℕ → Option ℕ → Option ℕ
-better w ss i none = if ltb 0 (w.room (get_or ss i no_running)) then some i else none
-better w ss i (some j) = if ltb 0 (w.room (get_or ss i no_running)) && w.first (get_or ss i no_running) (get_or ss j no_running) then some i else some j
+better w ss i none = when ltb 0 (w.room (get_or ss i no_running)) then some i else none
+better w ss i (some j) = when ltb 0 (w.room (get_or ss i no_running)) && w.first (get_or ss i no_running) (get_or ss j no_running) then some i else some j
 
 -- which of the first n sources is moved next
 unfoldable pub next : Way → List Running → ℕ → Option ℕ
@@ -159,7 +159,7 @@ dearer_average later earlier =
 
 -- "lower units to b - D": of a unit alone
 unfoldable pub unit_room : Running → ℕ
-unit_room s = if is_unit s.plant then room last s else 0
+unit_room s = when is_unit s.plant then room last s else 0
 
 -- "one after another": their order does not change as they are lowered
 abbrev pub last_step : Way
@@ -167,7 +167,7 @@ last_step = record { room = unit_room; first = dearer_average; moved = lowered }
 
 -- "U may rise to level h, but only if its level is at least e; P may rise to v = g."
 abbrev pub headroom_of : Plant → Running → ℕ
-headroom_of (U u) s = if leb u.e (level s) then u.h - level s else 0
+headroom_of (U u) s = when leb u.e (level s) then u.h - level s else 0
 headroom_of (P g rate) s = g - s.v
 headroom_of (F g) s = 0
 
@@ -197,19 +197,19 @@ to_emergency ss = map (λ s. lowered s (room emergency s)) ss
 -- If emergency room is too small, bring every U and P to its emergency floor .., then lower units .. until the remainder is met."; else 12
 unfoldable pub unload : InternalSequence → ℕ → List Running → ℕ → Outcome (List Running)
 unload number n ss r =
-    if leb r (all (room normal) ss n) then accepted (plain (unloading normal) n ss r) else
-    if leb r (all (room oil) ss n) then accepted (plain (unloading oil) n ss r) else
-    if leb r (all (room emergency) ss n) then accepted (plain (unloading emergency) n ss r) else
-    if leb r (all (room last) ss n) then accepted (plain last_step n (to_emergency ss) (r - all (room emergency) ss n)) else
+    when leb r (all (room normal) ss n) then accepted (plain (unloading normal) n ss r) else
+    when leb r (all (room oil) ss n) then accepted (plain (unloading oil) n ss r) else
+    when leb r (all (room emergency) ss n) then accepted (plain (unloading emergency) n ss r) else
+    when leb r (all (room last) ss n) then accepted (plain last_step n (to_emergency ss) (r - all (room emergency) ss n)) else
     refused (NoRoom number)
 
 -- "Below 0: credit .. One MWh at a time"; with "too little headroom" 13
 unfoldable pub credit : InternalSequence → ℕ → List Running → ℕ → Outcome (List Running)
-credit number n ss r = if leb r (all headroom ss n) then accepted (plain crediting n ss r) else refused (NoHeadroom number)
+credit number n ss r = when leb r (all headroom ss n) then accepted (plain crediting n ss r) else refused (NoHeadroom number)
 
 -- "Remainder = group's total MWh - what its D lines took."
 unfoldable pub remainder : InternalSequence → ℕ → ℕ → ℕ → List Running → Outcome (List Running)
-remainder number n total took ss = if leb took total then unload number n ss (total - took) else credit number n ss (took - total)
+remainder number n total took ss = when leb took total then unload number n ss (total - took) else credit number n ss (took - total)
 
 -- Members.
 
@@ -240,7 +240,7 @@ amount incremental_cost s t u = less (changed t (level t)) (changed u (level u))
 -- "after the members so far, |amount|·(their MWh)/(group MWh) rounded down"; "Group total 0: the first member has all."
 -- of the group's MWh x, after c members with m MWh together
 unfoldable pub up_to : ℕ → ℕ → ℕ → ℕ → ℕ
-up_to x size c m = if eqb x 0 then (if eqb c 0 then 0 else size) else size * m / x
+up_to x size c m = when eqb x 0 then (when eqb c 0 then 0 else size) else size * m / x
 
 -- "Open energy left on a source costs W(D + v) - W(D), W as changed."
 abbrev pub open_cost : Running → ℕ

@@ -1,7 +1,7 @@
 -- Document 01, "Sequence numbers", "One group" and "Numbers a call may give back": the whole hour and its cells.
 use Rattle.std.specs.Prelude.{Bool, List, [], ◌∷◌, ◌++◌, map, ℕ, suc, ◌+◌, ◌-◌, ◌*◌, ltb, get_or, take, ℤ, pos}
 use Rattle.std.proofs.Math.Option.{Option, none, some}
-use Rattle.rules.specs.Words.{if◌then◌else◌, sum_to, list_to}
+use Rattle.rules.specs.Words.{when◌then◌else◌, sum_to, list_to}
 use Rattle.rules.specs.Refusals.{Outcome, accepted, and_then}
 use Rattle.rules.specs.Sequences.{no_delivery, same_number, numbered}
 use Rattle.rules.specs.Group.{no_running, opened, group_lines, remainder, Amount, signed, Item, direct_mwh, incremental_mwh, direct_cost, incremental_cost, amount, up_to, OpenItem, open_mwh, open_grains, open_amount}
@@ -37,10 +37,10 @@ member ks x j = same_key (key_at ks j) x
 
 -- the MWh of the group's members among the first j deliveries, and how many they are
 abbrev pub scheduled : Hour → List Key → Key → ℕ → ℕ
-scheduled h ks x j = sum_to (λ i. if member ks x i then (get_or h.deliveries i no_delivery).mwh else 0) j
+scheduled h ks x j = sum_to (λ i. when member ks x i then (get_or h.deliveries i no_delivery).mwh else 0) j
 
 abbrev pub counted : List Key → Key → ℕ → ℕ
-counted ks x j = sum_to (λ i. if member ks x i then 1 else 0) j
+counted ks x j = sum_to (λ i. when member ks x i then 1 else 0) j
 
 -- "each member getting the increase, with the amount's sign"
 unfoldable pub share : Hour → List Key → Key → Amount → ℕ → ℤ
@@ -61,7 +61,7 @@ pub record Progress : Type 0 where
 -- the group's shares in place of what its members had
 unfoldable pub shared : Hour → List Key → Key → List Running → List Running → List Running → Cells → Cells
 shared h ks x ss ts us cell j i item =
-    if member ks x j then share h ks x (amount item (get_or ss i no_running) (get_or ts i no_running) (get_or us i no_running)) j else cell j i item
+    when member ks x j then share h ks x (amount item (get_or ss i no_running) (get_or ts i no_running) (get_or us i no_running)) j else cell j i item
 
 -- what the D lines took from all sources
 abbrev pub took_all : ℕ → List Running → List Running → ℕ
@@ -84,7 +84,7 @@ goes_before x y = ltb y.number.0 x.number.0
 -- a key put in its turn, if it has none yet
 unfoldable pub in_turn : Key → List Key → List Key
 in_turn x [] = x ∷ []
-in_turn x (y ∷ ys) = if same_key x y then y ∷ ys else if goes_before x y then x ∷ y ∷ ys else y ∷ in_turn x ys
+in_turn x (y ∷ ys) = when same_key x y then y ∷ ys else when goes_before x y then x ∷ y ∷ ys else y ∷ in_turn x ys
 
 -- the keys that deliveries have, each once, in their turns
 unfoldable pub turns : List Key → List Key

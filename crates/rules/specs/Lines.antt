@@ -1,7 +1,7 @@
 -- Document 01, "The deck": the seven lines, each a letter and a list of field kinds.
 use Rattle.std.specs.Prelude.{Bool, true, ◌&&◌, List, [], ◌∷◌, ◌++◌, ℕ, ◌+◌, eqb}
 use Rattle.std.proofs.Math.Option.{Option, none, some}
-use Rattle.rules.specs.Words.{if◌then◌else◌}
+use Rattle.rules.specs.Words.{when◌then◌else◌}
 use Rattle.rules.specs.Ranges.{Range, inside, losses, unit_level, coefficient_a, coefficient_b, coefficient_c, heat_rate, energy, purchase_rate, sequence, type, block, basis_mwh, percent}
 use Rattle.rules.specs.Fields.{Field, got, malformed, on_field, byte, byte_at, digits, escape, Place, Chars, chars_at, is_label, spaced_number, spaced_label, spaced_basis, basis_text}
 use Rattle.rules.specs.declared.Basis.{Basis}
@@ -90,13 +90,13 @@ byte_of E = 69
 
 unfoldable pub letter_of : ℕ → Option Letter
 letter_of b =
-    if eqb b 72 then some H else
-    if eqb b 85 then some U else
-    if eqb b 80 then some P else
-    if eqb b 70 then some F else
-    if eqb b 84 then some T else
-    if eqb b 68 then some D else
-    if eqb b 69 then some E else none
+    when eqb b 72 then some H else
+    when eqb b 85 then some U else
+    when eqb b 80 then some P else
+    when eqb b 70 then some F else
+    when eqb b 84 then some T else
+    when eqb b 68 then some D else
+    when eqb b 69 then some E else none
 
 -- a line: its letter and its fields
 pub record Line : Type 0 where

@@ -3,14 +3,14 @@ use Rattle.std.specs.Prelude.{List, [], ◌∷◌, ◌++◌, ℕ, zero, suc, ◌
 use Rattle.rules.specs.Calls.{source_part, delivery_part}
 use Rattle.rules.specs.Reading.{reading}
 use Rattle.rules.specs.Refusals.{Outcome, accepted, refused, refuse, and_then}
-use Rattle.rules.specs.Words.{if◌then◌else◌, list_to}
+use Rattle.rules.specs.Words.{when◌then◌else◌, list_to}
 use Rattle.rules.specs.declared.Hour.{Hour}
 use Rattle.rules.specs.declared.Refusal.TheVariants.{Short}
 
 -- how many bytes there are up to the first b and with it; all of them where there is none
 unfoldable pub past : ℕ → List ℕ → ℕ
 past b [] = 0
-past b (x ∷ xs) = if eqb x b then 1 else suc (past b xs)
+past b (x ∷ xs) = when eqb x b then 1 else suc (past b xs)
 
 -- "Each line ends in LF (10)": where a line starts, the first being line 0
 unfoldable pub line_start : List ℕ → ℕ → ℕ
@@ -23,7 +23,7 @@ label_start s k = line_start s k + past 34 (drop (line_start s k) s)
 
 -- "For an entry the deck lacks, or a refused deck, the part is empty; no label is": such a part starts at 0, any other where its label does
 abbrev pub part_start : ℕ → ℕ → ℕ
-part_start start n = if eqb n 0 then 0 else start
+part_start start n = when eqb n 0 then 0 else start
 
 -- how many sources a deck has
 abbrev pub sources_of : Outcome Hour → ℕ

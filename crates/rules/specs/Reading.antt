@@ -1,7 +1,7 @@
 -- Document 01, "The deck" and "Numbers a call may give back", 1 to 11: what reading a deck gives.
 use Rattle.std.specs.Prelude.{Bool, true, false, not, ◌&&◌, List, [], ◌∷◌, ℕ, zero, suc, ◌+◌, leb, ltb, eqb, length}
 use Rattle.std.proofs.Math.Option.{Option, none, some}
-use Rattle.rules.specs.Words.{if◌then◌else◌, sum_to, all_to, any_to, is_none, find_to}
+use Rattle.rules.specs.Words.{when◌then◌else◌, sum_to, all_to, any_to, is_none, find_to}
 use Rattle.rules.specs.Refusals.{Outcome, accepted, refused, refuse, and_then}
 use Rattle.rules.specs.Units.{generation, is_unit, levelled}
 use Rattle.rules.specs.Sequences.{numbered}
@@ -80,7 +80,7 @@ same_basis (Mwh v) (Mwh w) = eqb v w
 
 -- "basis not that of the unit's earlier D line" (8), asked of every earlier one
 abbrev pub basis_kept : Hour → ℕ → Basis → Bool
-basis_kept h i x = all_to (λ j. if eqb (direct_at h j).source i then same_basis (direct_at h j).basis x else true) h.ndirects
+basis_kept h i x = all_to (λ j. when eqb (direct_at h j).source i then same_basis (direct_at h j).basis x else true) h.ndirects
 
 -- "or a number not below h" (8)
 abbrev pub high : Plant → ℕ
@@ -95,7 +95,7 @@ below_high (Mwh v) p = ltb v (high p)
 
 -- the percents of the unit's earlier D lines
 abbrev pub percents_of : Hour → ℕ → ℕ
-percents_of h i = sum_to (λ j. if eqb (direct_at h j).source i then (direct_at h j).percent else 0) h.ndirects
+percents_of h i = sum_to (λ j. when eqb (direct_at h j).source i then (direct_at h j).percent else 0) h.ndirects
 
 -- 3, 4 and 7 to 9 in their order
 abbrev pub direct_taken : Hour → Bool → Basis → ℕ → Label → Label → Outcome Hour
@@ -183,7 +183,7 @@ on_line malformed r after = refused r
 -- one line after the hour so far; "then E, and nothing after E"
 abbrev pub turn : List ℕ → Hour → (Hour → ℕ → Outcome Hour) → Line → ℕ → Outcome Hour
 turn s h go l next =
-    if is_end l.letter then (if eqb next (length s) then finished h else refused (Form (line_number h + 1))) else
+    when is_end l.letter then (when eqb next (length s) then finished h else refused (Form (line_number h + 1))) else
     and_then (taken h l) λ after. go after next
 
 -- "The reader goes through the lent deck line by line and knows its place": f lines at most, from the place at

@@ -1,7 +1,7 @@
 -- Document 01, "Sequence numbers (document 001, 3.1)".
 use Rattle.std.specs.Prelude.{Bool, true, not, ◌&&◌, List, [], ℕ, zero, suc, ◌+◌, ◌-◌, ◌*◌, min, max, eqb, get_or}
 use Rattle.std.proofs.Math.Option.{Option, none, some}
-use Rattle.rules.specs.Words.{if◌then◌else◌, ◌otherwise◌}
+use Rattle.rules.specs.Words.{when◌then◌else◌, ◌otherwise◌}
 use Rattle.rules.specs.declared.Label.{Label}
 use Rattle.rules.specs.declared.Delivery.{Delivery}
 use Rattle.rules.specs.declared.InputSequence.{InputSequence}
@@ -34,7 +34,7 @@ joined f (some x) (some y) = some (record { 0 = f x.0 y.0 })
 
 -- "matched against the deliveries with sequence 1..99 only": the number of one that fits
 abbrev pub match : (Delivery → Bool) → Delivery → Option InternalSequence
-match fits t = if not (to_place t) && fits t then some (times_ten t.sequence) else none
+match fits t = when not (to_place t) && fits t then some (times_ten t.sequence) else none
 
 -- the "least match" (f is min) or "greatest match" (f is max) among the first n deliveries
 unfoldable pub matches : (ℕ → ℕ → ℕ) → (Delivery → Bool) → List Delivery → ℕ → Option InternalSequence
@@ -80,4 +80,4 @@ placed ts n t = rule_a ts n t otherwise rule_b ts n t otherwise rule_c ts n t ot
 
 -- a delivery's internal number; "sequence 0 and no delivery to place it by" has none (11)
 unfoldable pub numbered : List Delivery → ℕ → Delivery → Option InternalSequence
-numbered ts n t = if to_place t then placed ts n t else some (times_ten t.sequence)
+numbered ts n t = when to_place t then placed ts n t else some (times_ten t.sequence)

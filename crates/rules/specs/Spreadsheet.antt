@@ -1,7 +1,7 @@
 -- Document 02, item 1, "The allocations as a spreadsheet file": the report's lines as RFC 4180 text, and what a file's bytes come to.
 use Rattle.std.specs.Prelude.{Bool, true, false, ◌&&◌, ◌||◌, List, [], ◌∷◌, ◌++◌, ℕ, zero, suc, ◌+◌, ◌-◌, ltb, eqb, ℤ, pos, negsuc, length, drop}
 use Rattle.std.proofs.Math.Option.{Option, none, some}
-use Rattle.rules.specs.Words.{if◌then◌else◌, text}
+use Rattle.rules.specs.Words.{when◌then◌else◌, text}
 use Rattle.rules.specs.Refusals.{Outcome, accepted, refused, and_then}
 use Rattle.rules.specs.Fields.{Field, got, malformed, on_field, byte, byte_at, number_at, is_character, is_label, Chars}
 use Rattle.rules.specs.Report.{ReportLine, hour, pair, internal, end, refusal, signed_text}
@@ -29,7 +29,7 @@ crlf rest = 13 ∷ 10 ∷ rest
 -- "quotes doubled, spaces kept"
 unfoldable pub doubled : Chars → List ℕ → List ℕ
 doubled [] rest = rest
-doubled (c ∷ cs) rest = if eqb c 34 then 34 ∷ 34 ∷ doubled cs rest else c ∷ doubled cs rest
+doubled (c ∷ cs) rest = when eqb c 34 then 34 ∷ 34 ∷ doubled cs rest else c ∷ doubled cs rest
 
 -- "every label quoted", after its comma
 abbrev pub label_field : Chars → List ℕ → List ℕ
@@ -88,10 +88,10 @@ ended = 3
 
 -- "one `hour`, any deliveries, any internals and one `end`": how far it is after a line, where that may come
 abbrev pub after : ℕ → ReportLine → Option ℕ
-after stage (hour amounts) = if eqb stage headed then some houred else none
-after stage (pair delivery number source amounts) = if eqb stage houred then some houred else none
-after stage (internal source amounts) = if eqb stage houred || eqb stage opened then some opened else none
-after stage end = if eqb stage houred || eqb stage opened then some ended else none
+after stage (hour amounts) = when eqb stage headed then some houred else none
+after stage (pair delivery number source amounts) = when eqb stage houred then some houred else none
+after stage (internal source amounts) = when eqb stage houred || eqb stage opened then some opened else none
+after stage end = when eqb stage houred || eqb stage opened then some ended else none
 after stage (refusal number place) = none
 
 abbrev pub ordered : Option ℕ → (ℕ → Bool) → Bool
@@ -144,29 +144,29 @@ pushed c malformed = malformed
 unfoldable pub quoted : Bool → ℕ → List ℕ → Field Chars
 quoted false i [] = malformed
 quoted false i (b ∷ t) =
-    if eqb b 34 then quoted true (suc i) t else
-    if is_character b then pushed b (quoted false (suc i) t) else malformed
+    when eqb b 34 then quoted true (suc i) t else
+    when is_character b then pushed b (quoted false (suc i) t) else malformed
 quoted true i [] = got [] i
-quoted true i (b ∷ t) = if eqb b 34 then pushed 34 (quoted false (suc i) t) else got [] i
+quoted true i (b ∷ t) = when eqb b 34 then pushed 34 (quoted false (suc i) t) else got [] i
 
 -- a label after its comma
 unfoldable pub label_at : List ℕ → ℕ → Field Chars
 label_at s at =
     on_field (text_at s at (44 ∷ 34 ∷ [])) λ u p.
     on_field (quoted false p (drop p s)) λ cs q.
-    if is_label cs then got cs q else malformed
+    when is_label cs then got cs q else malformed
 
 -- "Numbers are whole, fit 64 signed bits and have no leading zeros": of so many without its sign
 abbrev pub above : ℕ → ℕ → Field ℤ
-above n p = if fits64 (pos n) then got (pos n) p else malformed
+above n p = when fits64 (pos n) then got (pos n) p else malformed
 
 abbrev pub below : ℕ → ℕ → Field ℤ
 below zero p = malformed
-below (suc n) p = if fits64 (negsuc n) then got (negsuc n) p else malformed
+below (suc n) p = when fits64 (negsuc n) then got (negsuc n) p else malformed
 
 unfoldable pub signed_at : List ℕ → ℕ → Field ℤ
 signed_at s at =
-    if eqb (byte s at) 45 then on_field (number_at s (at + 1)) below
+    when eqb (byte s at) 45 then on_field (number_at s (at + 1)) below
     else on_field (number_at s at) above
 
 -- a number after its comma
@@ -220,9 +220,9 @@ end_at s at =
 -- the record from a place on, by the first letter of its kind, and where the next one starts
 unfoldable pub record_at : List ℕ → ℕ → Field ReportLine
 record_at s at =
-    if eqb (byte s at) 104 then hour_at s at else
-    if eqb (byte s at) 100 then delivery_at s at else
-    if eqb (byte s at) 105 then internal_at s at else
+    when eqb (byte s at) 104 then hour_at s at else
+    when eqb (byte s at) 100 then delivery_at s at else
+    when eqb (byte s at) 105 then internal_at s at else
     end_at s at
 
 -- "record not of the form, missing or out of order, with its number" (16): the records from a place on, f at most, the first being the k-th
@@ -234,7 +234,7 @@ on_record malformed k go = refused (FileRecord k)
 abbrev pub on_stage : List ℕ → ℕ → ReportLine → ℕ → (ℕ → Outcome (List ReportLine)) → Option ℕ → Outcome (List ReportLine)
 on_stage s k l p go none = refused (FileRecord k)
 on_stage s k l p go (some stage) =
-    if eqb stage ended then (if eqb p (length s) then accepted (l ∷ []) else refused (FileRecord (k + 1))) else
+    when eqb stage ended then (when eqb p (length s) then accepted (l ∷ []) else refused (FileRecord (k + 1))) else
     and_then (go stage) λ ls. accepted (l ∷ ls)
 
 unfoldable pub records_from : ℕ → List ℕ → ℕ → ℕ → ℕ → Outcome (List ReportLine)

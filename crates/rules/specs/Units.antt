@@ -1,6 +1,6 @@
 -- Document 01, "Units, curves and money". Money is in grains, 20,000,000 to the dollar.
 use Rattle.std.specs.Prelude.{Bool, true, false, not, ◌&&◌, ℕ, ◌+◌, ◌*◌, ◌/◌, leb}
-use Rattle.rules.specs.Words.{if◌then◌else◌}
+use Rattle.rules.specs.Words.{when◌then◌else◌}
 use Rattle.rules.specs.Refusals.{Outcome, accepted, refuse}
 use Rattle.rules.specs.Ranges.{inside, unit_level, coefficient_a, coefficient_b, coefficient_c, heat_rate, cost_level}
 use Rattle.rules.specs.declared.HeatCurve.{HeatCurve}
@@ -15,7 +15,7 @@ heat c m = (2 * c.a + 2 * c.b * m + c.c * m * m) * c.r
 
 -- "Cost at level m, from the curve's start k up .. Below k: (cost at k)·m/k, rounded down."
 unfoldable pub curve_cost : HeatCurve → ℕ → ℕ
-curve_cost c m = if leb c.k m then heat c m else heat c c.k * m / c.k
+curve_cost c m = when leb c.k m then heat c m else heat c c.k * m / c.k
 
 -- "Call this W(m)"; "P: each MWh costs rate·2,000 grains"; "F: .. no cost"
 abbrev pub cost : Plant → ℕ → ℕ

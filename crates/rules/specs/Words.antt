@@ -4,10 +4,10 @@ use Rattle.std.proofs.Math.Option.{Option, none, some}
 use Prim.Native.Char.{code}
 use Prim.Native.String.{String, [] as nothing, ◌∷◌ as ◌then◌}
 
-infix 2 if◌then◌else◌
-abbrev pub if◌then◌else◌ : {A : Type 0} → Bool → A → A → A
-if true then x else y = x
-if false then x else y = y
+infix 2 when◌then◌else◌
+abbrev pub when◌then◌else◌ : {A : Type 0} → Bool → A → A → A
+when true then x else y = x
+when false then x else y = y
 
 -- f 0 + .. + f (n - 1)
 unfoldable pub sum_to : (ℕ → ℕ) → ℕ → ℕ
@@ -42,7 +42,7 @@ is_none (some x) = false
 -- the first of 0 .. n - 1 that passes
 unfoldable pub find_to : (ℕ → Bool) → ℕ → Option ℕ
 find_to p zero = none
-find_to p (suc n) = find_to p n otherwise (if p n then some n else none)
+find_to p (suc n) = find_to p n otherwise (when p n then some n else none)
 
 -- whether two lists of numbers are the same
 unfoldable pub same_list : List ℕ → List ℕ → Bool

@@ -9,7 +9,7 @@ use Rattle.laws.specs.Internal.{internal, number_same}
 use Rattle.laws.specs.Sums.{below_suc}
 use Rattle.rules.specs.Hour.{no_number}
 use Rattle.rules.specs.Sequences.{no_delivery, times_ten, joined, match, matches}
-use Rattle.rules.specs.Words.{if◌then◌else◌}
+use Rattle.rules.specs.Words.{when◌then◌else◌}
 use Rattle.rules.specs.declared.Delivery.{Delivery}
 use Rattle.rules.specs.declared.InternalSequence.{InternalSequence}
 use Rattle.sequence.specs.declared.Sought.{Sought}
@@ -51,7 +51,7 @@ fits Any kind block = true
 
 -- a delivery's own number where it is sought
 abbrev pub number_if : Sought → ℕ → ℕ → InternalSequence → InternalSequence
-number_if x kind block own = if fits x kind block then own else no_number
+number_if x kind block own = when fits x kind block then own else no_number
 
 abbrev pub pick : Bool → ℕ → ℕ → ℕ
 pick true = max
@@ -59,11 +59,11 @@ pick false = min
 
 -- the lesser, or greater, of two numbers, where there are any
 abbrev pub better_of : Bool → InternalSequence → InternalSequence → InternalSequence
-better_of greatest x y = if is_unplaced x then y else if is_unplaced y then x else internal (pick greatest x.0 y.0)
+better_of greatest x y = when is_unplaced x then y else when is_unplaced y then x else internal (pick greatest x.0 y.0)
 
 -- the match of a number
 abbrev pub found : InternalSequence → Option InternalSequence
-found x = if is_unplaced x then none else some x
+found x = when is_unplaced x then none else some x
 
 -- s is the best match among the first n of any deliveries that have these columns
 pub record Best (kinds blocks : List ℕ) (own : List InternalSequence) (n : ℕ) (greatest : Bool) (passes : Delivery → Bool) (s : InternalSequence) : Type 0 where
@@ -80,10 +80,10 @@ under kind block o = eqb o.kind kind && not (eqb (block - 1) 0) && eqb o.block (
 pub found_some : (x : InternalSequence) → is_unplaced x ≡ false → found x ≡ some x
 found_some x e = rw e
 
-match_found : (passes : Delivery → Bool) (t : Delivery) → match passes t ≡ found (if passes t then own_number t else no_number)
+match_found : (passes : Delivery → Bool) (t : Delivery) → match passes t ≡ found (when passes t then own_number t else no_number)
 match_found passes t = go t.sequence.0 (passes t)
   where
-    go : (s : ℕ) (b : Bool) → (if not (eqb s 0) && b then some (internal (10 * s)) else none) ≡ found (if b then internal (10 * s) else no_number)
+    go : (s : ℕ) (b : Bool) → (when not (eqb s 0) && b then some (internal (10 * s)) else none) ≡ found (when b then internal (10 * s) else no_number)
     go zero true = refl
     go zero false = refl
     go (suc s) true = rw (ne_eqb (suc s) 0 (λ e. omega arith), ne_eqb (10 * suc s) 0 (λ e. omega arith))
@@ -97,7 +97,7 @@ joined_found greatest x y = go (is_unplaced x) (is_unplaced y) refl refl
     some_picked false e f = ne_eqb (min x.0 y.0) 0 (λ z. omega (arith, eqb-false x.0 0 e, eqb-false y.0 0 f))
 
     go : (a b : Bool) → is_unplaced x ≡ a → is_unplaced y ≡ b →
-        joined (pick greatest) (if a then none else some x) (if b then none else some y) ≡ found (if a then y else if b then x else internal (pick greatest x.0 y.0))
+        joined (pick greatest) (when a then none else some x) (when b then none else some y) ≡ found (when a then y else when b then x else internal (pick greatest x.0 y.0))
     go true b e f = rw f
     go false true e f = rw e
     go false false e f = rw (some_picked greatest e f)
@@ -105,7 +105,7 @@ joined_found greatest x y = go (is_unplaced x) (is_unplaced y) refl refl
 better_small : (greatest : Bool) (x y : InternalSequence) → x.0 ≤ 990 → y.0 ≤ 990 → (better_of greatest x y).0 ≤ 990
 better_small greatest x y a b = go (is_unplaced x) (is_unplaced y) greatest
   where
-    go : (p q g : Bool) → (if p then y else if q then x else internal (pick g x.0 y.0)).0 ≤ 990
+    go : (p q g : Bool) → (when p then y else when q then x else internal (pick g x.0 y.0)).0 ≤ 990
     go true q g = b
     go false true g = a
     go false false true = omega arith
@@ -114,7 +114,7 @@ better_small greatest x y a b = go (is_unplaced x) (is_unplaced y) greatest
 number_if_small : (x : Sought) (kind block : ℕ) (own : InternalSequence) → own.0 ≤ 990 → (number_if x kind block own).0 ≤ 990
 number_if_small x kind block own l = go (fits x kind block)
   where
-    go : (b : Bool) → (if b then own else no_number).0 ≤ 990
+    go : (b : Bool) → (when b then own else no_number).0 ≤ 990
     go true = l
     go false = omega arith
 

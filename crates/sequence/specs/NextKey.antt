@@ -5,7 +5,7 @@ use native.Mathlib.Omega.{arith}
 use Rattle.laws.specs.Choices.{true_not_false}
 use Rattle.laws.specs.Keys.{key_itself, key_other, among, among_first, among_either, Turns, turns_rest, turns_first, first_before}
 use Rattle.rules.specs.Hour.{no_key, key_at, counted, goes_before}
-use Rattle.rules.specs.Words.{if◌then◌else◌, sum_to}
+use Rattle.rules.specs.Words.{when◌then◌else◌, sum_to}
 use Rattle.rules.specs.declared.Key.{Key}
 use Rattle.sequence.specs.declared.NextGroup.{NextGroup}
 
@@ -15,7 +15,7 @@ farther best y = not best.there || goes_before y best.key
 
 -- of the best so far and y the one that comes first, where y comes after x
 abbrev pub nearer_of : NextGroup → Key → Key → NextGroup
-nearer_of best y x = if goes_before x y && farther best y then record { there = true; key = y } else best
+nearer_of best y x = when goes_before x y && farther best y then record { there = true; key = y } else best
 
 -- r is the first key after x of the first n deliveries
 pub record Next (ks : List Key) (n : ℕ) (x : Key) (r : NextGroup) : Type 0 where
@@ -67,7 +67,7 @@ module _ (ks : List Key) (x : Key) (n : ℕ) (best : NextGroup) (h : Next ks n x
   step = go (goes_before x y) best.there (goes_before y best.key) refl refl refl
     where
       go : (a t b : Bool) → goes_before x y ≡ a → best.there ≡ t → goes_before y best.key ≡ b →
-          Next ks (suc n) x (if a && (not t || b) then record { there = true; key = y } else best)
+          Next ks (suc n) x (when a && (not t || b) then record { there = true; key = y } else best)
       go false t b e f g = kept (λ z l k q. omega (arith, ltb-false y.number.0 x.number.0 e, apart z x l))
       go true true false e f g = kept (λ z l k q. omega (arith, ltb-false best.key.number.0 y.number.0 g, apart best.key z (k f)))
       go true true true e f g = taken e (λ t. g)

@@ -8,7 +8,7 @@ use borrow.Author.Tests.{eq-eqb, ne_eqb, eqb-true, eqb-false}
 use Rattle.std.proofs.Math.ListN.{get_or}
 use Rattle.rules.specs.Hour.{no_number, or_none}
 use Rattle.rules.specs.Sequences.{no_delivery, to_place, joined, matches, before, after, rule_a, rule_b, rule_c, rule_d, rule_e, placed, numbered}
-use Rattle.rules.specs.Words.{if◌then◌else◌}
+use Rattle.rules.specs.Words.{when◌then◌else◌}
 use Rattle.rules.specs.declared.Delivery.{Delivery}
 use Rattle.rules.specs.declared.InternalSequence.{InternalSequence}
 use Rattle.sequence.specs.declared.Sought.TheVariants.{Block, Kind, Any}
@@ -20,7 +20,7 @@ unfolding matches
 matches_nothing f ts zero = refl
 matches_nothing f ts (suc n) = ap₂ (joined f) (matches_nothing f ts n) (go (not (to_place (get_or ts n no_delivery))))
   where
-    go : (b : Bool) → (if b && false then some (own_number (get_or ts n no_delivery)) else none) ≡ none
+    go : (b : Bool) → (when b && false then some (own_number (get_or ts n no_delivery)) else none) ≡ none
     go true = refl
     go false = refl
 

@@ -7,7 +7,7 @@ use Rattle.rules.specs.Group.{Amount, no_running, group_lines, remainder, signed
 use Rattle.rules.specs.Hour.{key_at, same_key, member, scheduled, counted, share, Cells, Progress, shared, took_all, rest, group, groups}
 use Rattle.rules.specs.Refusals.{accepted, and_then}
 use Rattle.rules.specs.Sequences.{no_delivery}
-use Rattle.rules.specs.Words.{if◌then◌else◌, sum_to}
+use Rattle.rules.specs.Words.{when◌then◌else◌, sum_to}
 use Rattle.rules.specs.declared.Hour.{Hour}
 use Rattle.rules.specs.declared.Key.{Key}
 use Rattle.rules.specs.declared.Running.{Running}
@@ -18,10 +18,10 @@ module _ (h : Hour) (ks ls : List Key) (same : (j : ℕ) → key_at ks j ≡ key
     member_same = λ d j. same_key (same j d) x
 
     scheduled_same : (j : ℕ) → scheduled h ks x j ≡ scheduled h ls x j
-    scheduled_same j = λ d. sum_to (λ i. if member_same d i then (get_or h.deliveries i no_delivery).mwh else 0) j
+    scheduled_same j = λ d. sum_to (λ i. when member_same d i then (get_or h.deliveries i no_delivery).mwh else 0) j
 
     pub counted_same : (j : ℕ) → counted ks x j ≡ counted ls x j
-    counted_same j = λ d. sum_to (λ i. if member_same d i then 1 else 0) j
+    counted_same j = λ d. sum_to (λ i. when member_same d i then 1 else 0) j
 
     share_same : (a : Amount) (j : ℕ) → share h ks x a j ≡ share h ls x a j
     unfolding share
@@ -33,7 +33,7 @@ module _ (h : Hour) (ks ls : List Key) (same : (j : ℕ) → key_at ks j ≡ key
     shared_same : (ss ts us : List Running) (cell : Cells) → shared h ks x ss ts us cell ≡ shared h ls x ss ts us cell
     unfolding shared
     shared_same ss ts us cell = λ d j i item.
-        if member_same d j then share_same (amount item (get_or ss i no_running) (get_or ts i no_running) (get_or us i no_running)) j d else cell j i item
+        when member_same d j then share_same (amount item (get_or ss i no_running) (get_or ts i no_running) (get_or us i no_running)) j d else cell j i item
 
     rest_same : (ss ts : List Running) (cell : Cells) → rest h ks x ss ts cell ≡ rest h ls x ss ts cell
     unfolding rest

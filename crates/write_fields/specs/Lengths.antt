@@ -2,7 +2,7 @@
 use Rattle.std.specs.Prelude.{◌≡◌, refl, Bool, true, false, [], ◌∷◌, ◌++◌, ℕ, zero, suc, ◌+◌, ◌*◌, ◌/◌, ◌%◌, ◌^◌, ◌≤◌, ◌<◌, ltb, length}
 use Rattle.std.proofs.Common.{ap, ◌∙◌, add-one, arith, length-append}
 use Rattle.std.proofs.Math.Decide.{dec_lt}
-use Rattle.rules.specs.Words.{if◌then◌else◌}
+use Rattle.rules.specs.Words.{when◌then◌else◌}
 use Rattle.rules.specs.Fields as fields
 use Rattle.rules.specs.Fields.{digits_in, digits}
 use Rattle.roundtrip.specs.Numbers.{digits_one, digits_more}
@@ -12,7 +12,7 @@ unfolding fields.digits_in
 digits_in_few zero v = omega arith
 digits_in_few (suc f) v = go (ltb v 10) (digits_in_few f (v / 10))
   where
-    go : (p : Bool) → length (digits_in f (v / 10)) ≤ f → length (if p then (48 + v) ∷ [] else digits_in f (v / 10) ++ ((48 + v % 10) ∷ [])) ≤ suc f
+    go : (p : Bool) → length (digits_in f (v / 10)) ≤ f → length (when p then (48 + v) ∷ [] else digits_in f (v / 10) ++ ((48 + v % 10) ∷ [])) ≤ suc f
     go true h = omega arith
     go false h = omega (arith, length-append (digits_in f (v / 10)) ((48 + v % 10) ∷ []))
 

@@ -1,7 +1,7 @@
 -- The texts of bytes, numbers and labels before the rest, and how each is made piece by piece.
 use Rattle.std.specs.Prelude.{◌≡◌, refl, Bool, true, false, List, [], ◌∷◌, ◌++◌, ℕ, zero, suc, ◌+◌, ◌/◌, ◌%◌, ◌^◌, ◌≤◌, ◌<◌, length, get_or, take, drop}
 use Rattle.std.proofs.Common.{ap, sym, ◌∙◌, append_assoc, append-nil, add-one, arith, drop_of_length-le, drop-cons}
-use Rattle.rules.specs.Words.{if◌then◌else◌}
+use Rattle.rules.specs.Words.{when◌then◌else◌}
 use Rattle.rules.specs.Fields as fields
 use Rattle.rules.specs.Fields.{is_escaped, escape, digits, Chars, basis_text}
 use Rattle.rules.specs.declared.Basis.{Basis}
@@ -120,7 +120,7 @@ escape_first : (c : ℕ) (cs : Chars) (rest : List ℕ) → character_text c (es
 unfolding fields.escape
 escape_first c cs rest = go (is_escaped c)
   where
-    go : (p : Bool) → (if p then 92 ∷ c ∷ [] else c ∷ []) ++ (escape cs ++ rest) ≡ (if p then 92 ∷ c ∷ escape cs else c ∷ escape cs) ++ rest
+    go : (p : Bool) → (when p then 92 ∷ c ∷ [] else c ∷ []) ++ (escape cs ++ rest) ≡ (when p then 92 ∷ c ∷ escape cs else c ∷ escape cs) ++ rest
     go true = refl
     go false = refl
 

@@ -1,7 +1,7 @@
 -- The records of a spreadsheet file as what is written one after another.
 use Rattle.std.specs.Prelude.{◌≡◌, refl, Bool, true, false, List, [], ◌∷◌, ◌++◌, ℕ, zero, suc, ◌+◌, ◌-◌, ◌*◌, ◌≤◌, eqb, ℤ, pos, length, get_or, take, drop}
 use Rattle.std.proofs.Common.{ap, sym, ◌∙◌, append_assoc, arith, length-append}
-use Rattle.rules.specs.Words.{if◌then◌else◌, text}
+use Rattle.rules.specs.Words.{when◌then◌else◌, text}
 use Rattle.rules.specs.Fields.{digits, Chars}
 use Rattle.rules.specs.Report.{ReportLine, hour, pair, internal, end, refusal}
 use Rattle.rules.specs.Spreadsheet as sheet
@@ -58,7 +58,7 @@ pub front_character : (c : ℕ) → Front (doubled_text c)
 unfolding sheet.doubled
 front_character c = record { longer = λ rest. go (eqb c 34) rest }
   where
-    go : (p : Bool) (rest : List ℕ) → length (if p then 34 ∷ 34 ∷ rest else c ∷ rest) ≡ length (if p then 34 ∷ 34 ∷ [] else c ∷ []) + length rest
+    go : (p : Bool) (rest : List ℕ) → length (when p then 34 ∷ 34 ∷ rest else c ∷ rest) ≡ length (when p then 34 ∷ 34 ∷ [] else c ∷ []) + length rest
     go true rest = omega arith
     go false rest = omega arith
 
@@ -83,7 +83,7 @@ unfolding sheet.doubled
 doubled_then [] rest w = refl
 doubled_then (c ∷ cs) rest w = go (eqb c 34) _ _ (doubled_then cs rest w)
   where
-    go : (p : Bool) (x y : List ℕ) → x ++ w ≡ y → (if p then 34 ∷ 34 ∷ x else c ∷ x) ++ w ≡ (if p then 34 ∷ 34 ∷ y else c ∷ y)
+    go : (p : Bool) (x y : List ℕ) → x ++ w ≡ y → (when p then 34 ∷ 34 ∷ x else c ∷ x) ++ w ≡ (when p then 34 ∷ 34 ∷ y else c ∷ y)
     go true x y e = ap (λ (l : List ℕ). 34 ∷ 34 ∷ l) e
     go false x y e = ap (λ (l : List ℕ). c ∷ l) e
 
@@ -95,7 +95,7 @@ unfolding sheet.doubled
 doubled_most [] = omega arith
 doubled_most (c ∷ cs) = go (eqb c 34) (doubled cs []) (doubled_most cs)
   where
-    go : (p : Bool) (w : List ℕ) → length w ≤ length cs * 2 → length (if p then 34 ∷ 34 ∷ w else c ∷ w) ≤ suc (length cs) * 2
+    go : (p : Bool) (w : List ℕ) → length w ≤ length cs * 2 → length (when p then 34 ∷ 34 ∷ w else c ∷ w) ≤ suc (length cs) * 2
     go true w h = omega arith
     go false w h = omega arith
 

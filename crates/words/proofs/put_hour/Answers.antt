@@ -1,0 +1,19 @@
+use mathlib.Core.Path.{◌≡◌, refl}
+use borrow.Author.Rules.{rules}
+use Rattle.groups.specs.MwhsListed.{hour_mwhs}
+use Rattle.reconstruct.specs.WholeAnswer.{keys_of, placeable}
+use Rattle.roundtrip.specs.GivenHour.{valid_given}
+use Rattle.words.proofs.put_hour.Goals as goal
+
+pub keys-keys-requires : goal.keys-keys-requires
+keys-keys-requires c =
+    placeable _ c.requires
+
+pub list_mwhs-requires : goal.list_mwhs-requires
+list_mwhs-requires c =
+    ((valid_given _ c.requires).deliveries.few, refl)
+
+pub take_turns-end-requires : goal.take_turns-end-requires
+take_turns-end-requires c =
+    let start = c in
+    (start.pre, keys_of _ _ c.keys-keys.ensures, hour_mwhs _ _ c.list_mwhs.ensures, record { led = refl; kept = refl })
