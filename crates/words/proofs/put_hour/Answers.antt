@@ -15,5 +15,4 @@ list_mwhs-requires c =
 
 pub take_turns-end-requires : goal.take_turns-end-requires
 take_turns-end-requires c =
-    let start = c in
-    (start.pre, keys_of _ _ c.keys-keys.ensures, hour_mwhs _ _ c.list_mwhs.ensures, record { led = refl; kept = refl })
+    (c.requires, keys_of _ _ c.keys-keys.ensures, hour_mwhs _ _ c.list_mwhs.ensures, record { led = refl; kept = refl })
