@@ -1,4 +1,3 @@
-use borrow.Author.Rules.{rules}
 use native.Mathlib.Omega.{arith}
 use Rattle.roundtrip.specs.GivenHour.{valid_given}
 use Rattle.write_spreadsheet.proofs.amounts_of.Goals as goal
@@ -11,8 +10,7 @@ sum_delivered-delivered-requires c =
     (valid_given c.args.h c.requires).deliveries.few
 
 pub hour_amounts-requires : goal.hour_amounts-requires
-hour_amounts-requires c =
-    (
-      omega (arith, (valid_given c.args.h c.requires).drawn, c.sum_generated-generation.ensures.0, c.sum_delivered-delivered.ensures.0),
-      omega (arith, c.sum_generated-generation.ensures.1),
-    )
+hour_amounts-requires c = (
+  omega (arith, (valid_given c.args.h c.requires).drawn, c.sum_generated-generation.ensures.0, c.sum_delivered-delivered.ensures.0),
+  omega (arith, c.sum_generated-generation.ensures.1),
+)

@@ -1,4 +1,3 @@
-use borrow.Author.Rules.{rules}
 use lib.ListN.{length}
 use mathlib.Core.Path.{sym}
 use Rattle.rules.specs.Reading.{reading}
@@ -30,10 +29,10 @@ pub returns-clause-outcome : goal.returns-clause-outcome
 returns-clause-outcome c =
     let deck = c.args.deck.now in
     let out = c.args.out.now in
-    let accepted = read_accepted (reading deck) c.read-x.result c.read-x.ensures c.in_default.is in (told_as out (deck_accepted deck (length out) c.read-x.result.hour accepted) c.write_valid.ensures).0
+    let accepted = read_accepted (reading deck) c.read-x.result c.read-x.ensures c.in_default.is in (told_as out (deck_accepted deck (length out) c.read-x.result.hour accepted) (c.write_valid.ensures.outcome, c.write_valid.ensures.bytes)).0
 
 pub returns-clause-bytes : goal.returns-clause-bytes
 returns-clause-bytes c =
     let deck = c.args.deck.now in
     let out = c.args.out.now in
-    let accepted = read_accepted (reading deck) c.read-x.result c.read-x.ensures c.in_default.is in (told_as out (deck_accepted deck (length out) c.read-x.result.hour accepted) c.write_valid.ensures).1
+    let accepted = read_accepted (reading deck) c.read-x.result c.read-x.ensures c.in_default.is in (told_as out (deck_accepted deck (length out) c.read-x.result.hour accepted) (c.write_valid.ensures.outcome, c.write_valid.ensures.bytes)).1

@@ -1,9 +1,6 @@
 use borrow.Author.Rules.{rules}
-use mathlib.Core.Path.{◌≡◌, ap, ◌∙◌}
-use Prim.Native.Nat.{◌-◌, ◌≤◌}
-use native.Mathlib.Omega.{arith}
 use Rattle.rules.specs.Record.{delivery_at}
-use Rattle.write_spreadsheet.specs.Rows.{delivery_labels, label_none, label_more}
+use Rattle.write_spreadsheet.specs.Rows.{label_none, label_more}
 use Rattle.write_spreadsheet.proofs.delivery_labels.Goals as goal
 
 pub loop-j-init : goal.loop-j-init

@@ -1,9 +1,6 @@
-use borrow.Author.Rules.{rules}
-use mathlib.Core.Path.{◌≡◌, ap, ◌∙◌}
+use mathlib.Core.Path.{◌≡◌}
 use Prim.Native.Nat.{◌-◌, ◌≤◌}
-use native.Mathlib.Omega.{arith}
-use Rattle.rules.specs.Record.{delivery_at}
-use Rattle.write_spreadsheet.specs.Rows.{delivery_labels, label_none, label_more}
+use Rattle.write_spreadsheet.specs.Rows.{delivery_labels}
 use Rattle.write_spreadsheet.proofs.delivery_labels.Given as goal
 
 abbrev pub invariant-loop-j : goal.invariant-loop-j
@@ -11,4 +8,3 @@ invariant-loop-j l = (l.m ≤ 32) × (l.j ≤ l.m) × (l.labels ≡ delivery_lab
 
 abbrev pub decreases-loop-j : goal.decreases-loop-j
 decreases-loop-j l = l.m - l.j
-

@@ -1,12 +1,11 @@
 use borrow.Author.Rules.{rules}
 use mathlib.Core.Path.{refl}
 use mathlib.Core.List.{[]}
-use Prim.Native.Nat.{◌-◌, ◌*◌, ◌≤◌, ◌<◌}
-use native.Mathlib.Nat.{mul-le-mul}
+use Prim.Native.Nat.{◌*◌, ◌<◌}
 use native.Mathlib.Omega.{arith}
 use lib.ListN.{replicate}
 use Rattle.rules.specs.Hour.{pair_width, key_at}
-use Rattle.write_fields.specs.Inked.{Inked, up_to, inked_place, inked_as, inked_none, inked_more, inked_all, room_as, room_next}
+use Rattle.write_fields.specs.Inked.{inked_place, inked_as, inked_none, inked_more, room_as, room_next}
 use Rattle.write_records.specs.Records.{head_text}
 use Rattle.hour_lines.specs.HourCells.{row_small}
 use Rattle.hour_lines.specs.HandedOver.{first_bytes}

@@ -1,9 +1,6 @@
 use borrow.Author.Rules.{rules}
-use mathlib.Core.Path.{◌≡◌, ap, ◌∙◌}
-use Prim.Native.Nat.{◌-◌, ◌≤◌}
-use native.Mathlib.Omega.{arith}
 use Rattle.rules.specs.Record.{source_at}
-use Rattle.write_spreadsheet.specs.Rows.{source_labels, label_none, label_more}
+use Rattle.write_spreadsheet.specs.Rows.{label_none, label_more}
 use Rattle.write_spreadsheet.proofs.source_labels.Goals as goal
 
 pub loop-i-init : goal.loop-i-init

@@ -1,9 +1,6 @@
-use borrow.Author.Rules.{rules}
-use mathlib.Core.Path.{◌≡◌, ap, ◌∙◌}
+use mathlib.Core.Path.{◌≡◌}
 use Prim.Native.Nat.{◌-◌, ◌≤◌}
-use native.Mathlib.Omega.{arith}
-use Rattle.rules.specs.Record.{source_at}
-use Rattle.write_spreadsheet.specs.Rows.{source_labels, label_none, label_more}
+use Rattle.write_spreadsheet.specs.Rows.{source_labels}
 use Rattle.write_spreadsheet.proofs.source_labels.Given as goal
 
 abbrev pub invariant-loop-i : goal.invariant-loop-i
@@ -11,4 +8,3 @@ invariant-loop-i l = (l.n ≤ 32) × (l.i ≤ l.n) × (l.labels ≡ source_label
 
 abbrev pub decreases-loop-i : goal.decreases-loop-i
 decreases-loop-i l = l.n - l.i
-

@@ -1,5 +1,3 @@
-use borrow.Author.Rules.{rules}
-use borrow.Author.Tests.{not-true, not-false}
 use lib.ListN.{length}
 use mathlib.Core.Path.{sym, ◌∙◌}
 use Rattle.hour_lines.specs.HandedOver.{told_as}
@@ -16,8 +14,8 @@ returns-then-not-valid-clause-bytes c =
 
 pub returns-clause-outcome : goal.returns-clause-outcome
 returns-clause-outcome c =
-    let out = c.args.out.now in (told_as out (sheet_valid c.args.h (length out) (sym c.valid.ensures ∙ c.if-not-valid.false)) c.write_valid.ensures).0
+    let out = c.args.out.now in (told_as out (sheet_valid c.args.h (length out) (sym c.valid.ensures ∙ c.if-not-valid.false)) (c.write_valid.ensures.outcome, c.write_valid.ensures.bytes)).0
 
 pub returns-clause-bytes : goal.returns-clause-bytes
 returns-clause-bytes c =
-    let out = c.args.out.now in (told_as out (sheet_valid c.args.h (length out) (sym c.valid.ensures ∙ c.if-not-valid.false)) c.write_valid.ensures).1
+    let out = c.args.out.now in (told_as out (sheet_valid c.args.h (length out) (sym c.valid.ensures ∙ c.if-not-valid.false)) (c.write_valid.ensures.outcome, c.write_valid.ensures.bytes)).1

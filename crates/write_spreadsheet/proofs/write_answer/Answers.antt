@@ -1,4 +1,3 @@
-use borrow.Author.Rules.{rules}
 use Prim.Native.Nat.{◌≤◌}
 use native.Mathlib.Omega.{arith}
 use lib.ListN.{length}
@@ -19,35 +18,29 @@ returns-in-Refused-clause-bytes c =
 
 pub hand_file-requires : goal.hand_file-requires
 hand_file-requires c =
-    let told = c.enum_told-1.given in
-    ended_done c.args.h c.requires.2 c.args.keys told.0.0 c.requires.0 c.requires.1 told.1
+    ended_done c.args.h c.requires.2 c.args.keys c.in_default.field-0 c.requires.0 c.requires.1 c.in_default.is
 
 pub returns-then-out-lt-MOST_FILE-clause-outcome : goal.returns-then-out-lt-MOST_FILE-clause-outcome
 returns-then-out-lt-MOST_FILE-clause-outcome c =
-    let told = c.enum_told-1.given in
-    let answered = ended_done c.args.h c.requires.2 c.args.keys told.0.0 c.requires.0 c.requires.1 told.1 in (told_as c.args.out.now (met c.args.h answered (length c.args.out.now)) c.hand_file.ensures).0
+    let answered = ended_done c.args.h c.requires.2 c.args.keys c.in_default.field-0 c.requires.0 c.requires.1 c.in_default.is in (told_as c.args.out.now (met c.args.h answered (length c.args.out.now)) (c.hand_file.ensures.outcome, c.hand_file.ensures.bytes)).0
 
 pub returns-then-out-lt-MOST_FILE-clause-bytes : goal.returns-then-out-lt-MOST_FILE-clause-bytes
 returns-then-out-lt-MOST_FILE-clause-bytes c =
-    let told = c.enum_told-1.given in
-    let answered = ended_done c.args.h c.requires.2 c.args.keys told.0.0 c.requires.0 c.requires.1 told.1 in (told_as c.args.out.now (met c.args.h answered (length c.args.out.now)) c.hand_file.ensures).1
+    let answered = ended_done c.args.h c.requires.2 c.args.keys c.in_default.field-0 c.requires.0 c.requires.1 c.in_default.is in (told_as c.args.out.now (met c.args.h answered (length c.args.out.now)) (c.hand_file.ensures.outcome, c.hand_file.ensures.bytes)).1
 
 pub put_file-requires : goal.put_file-requires
 put_file-requires c =
-    let told = c.enum_told-1.given in
-    let answered = ended_done c.args.h c.requires.2 c.args.keys told.0.0 c.requires.0 c.requires.1 told.1 in
+    let answered = ended_done c.args.h c.requires.2 c.args.keys c.in_default.field-0 c.requires.0 c.requires.1 c.in_default.is in
     (answered, omega (arith, hour_fits c.args.h answered, c.if-out-lt-MOST_FILE.false))
 
 pub returns-clause-outcome : goal.returns-clause-outcome
 returns-clause-outcome c =
     let out = c.args.out.now in
-    let told = c.enum_told-1.given in
-    let answered = ended_done c.args.h c.requires.2 c.args.keys told.0.0 c.requires.0 c.requires.1 told.1 in
+    let answered = ended_done c.args.h c.requires.2 c.args.keys c.in_default.field-0 c.requires.0 c.requires.1 c.in_default.is in
     let fits : length (hour_file c.args.h) ≤ length out = omega (arith, hour_fits c.args.h answered, c.if-out-lt-MOST_FILE.false) in (told_as out (met c.args.h answered (length out)) (into_whole (hour_file c.args.h) out _ _ fits c.put_file.ensures.size c.put_file.ensures.bytes)).0
 
 pub returns-clause-bytes : goal.returns-clause-bytes
 returns-clause-bytes c =
     let out = c.args.out.now in
-    let told = c.enum_told-1.given in
-    let answered = ended_done c.args.h c.requires.2 c.args.keys told.0.0 c.requires.0 c.requires.1 told.1 in
+    let answered = ended_done c.args.h c.requires.2 c.args.keys c.in_default.field-0 c.requires.0 c.requires.1 c.in_default.is in
     let fits : length (hour_file c.args.h) ≤ length out = omega (arith, hour_fits c.args.h answered, c.if-out-lt-MOST_FILE.false) in (told_as out (met c.args.h answered (length out)) (into_whole (hour_file c.args.h) out _ _ fits c.put_file.ensures.size c.put_file.ensures.bytes)).1
