@@ -12,7 +12,6 @@ use Rattle.rules.specs.Hour.{pair_width, keys, key_at, Progress}
 use Rattle.rules.specs.Reading.{generated, delivered, reading}
 use Rattle.rules.specs.Report as reports
 use Rattle.rules.specs.Report.{ReportLine, hour, end, hour_amounts, header_line, pair_amounts, open_amounts, pair_line, open_line, hour_lines, report_texts, report}
-use Rattle.rules.specs.Writing.{valid}
 use Rattle.rules.specs.declared.Hour.{Hour}
 use Rattle.rules.specs.declared.InternalSequence.{InternalSequence}
 use Rattle.rules.specs.declared.Key.{Key}

@@ -2,7 +2,7 @@
 use Rattle.std.specs.Prelude.{◌≡◌, List, [], ◌++◌, ℕ, ◌≤◌, ◌<◌, ℤ, length, drop}
 use Rattle.std.proofs.Common.{ap, sym, arith}
 use Rattle.rules.specs.Refusals.{accepted, refused, number_of, place_of}
-use Rattle.rules.specs.Hour.{reconstructed, answer}
+use Rattle.rules.specs.Hour.{reconstructed}
 use Rattle.rules.specs.Reading.{reading}
 use Rattle.rules.specs.Report as reports
 use Rattle.rules.specs.Report.{refusal, report}

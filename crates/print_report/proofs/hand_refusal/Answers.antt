@@ -1,11 +1,10 @@
-use borrow.Author.Rules.{rules}
 use mathlib.Core.List.{[]}
 use mathlib.Core.Path.{refl}
 use native.Mathlib.Omega.{arith}
 use Rattle.rules.specs.Refusals.{number_of, place_of}
 use Rattle.rules.specs.Report.{refusal}
 use Rattle.print_lines.specs.Lines.{printed}
-use Rattle.hour_lines.specs.HandedOver.{whole_room, whole_written, into_short, into_whole}
+use Rattle.hour_lines.specs.HandedOver.{whole_written, into_whole}
 use Rattle.print_report.proofs.hand_refusal.Goals as goal
 
 pub returns-clause-bytes : goal.returns-clause-bytes

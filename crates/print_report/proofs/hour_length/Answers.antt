@@ -1,4 +1,3 @@
-use borrow.Author.Rules.{rules}
 use mathlib.Core.List.{[]}
 use mathlib.Core.Path.{ap}
 use native.Mathlib.Omega.{arith}
@@ -17,11 +16,10 @@ sum_delivered-delivered-requires c =
     (given c.requires.hour).deliveries.few
 
 pub hour_amounts-amounts-requires : goal.hour_amounts-amounts-requires
-hour_amounts-amounts-requires c =
-    (
-      omega (arith, (given c.requires.hour).drawn, c.sum_generated-generation.ensures.0, c.sum_delivered-delivered.ensures.0),
-      omega (arith, c.sum_generated-generation.ensures.1),
-    )
+hour_amounts-amounts-requires c = (
+  omega (arith, (given c.requires.hour).drawn, c.sum_generated-generation.ensures.0, c.sum_delivered-delivered.ensures.0),
+  omega (arith, c.sum_generated-generation.ensures.1),
+)
 
 pub header_length-header-requires : goal.header_length-header-requires
 header_length-header-requires c =

@@ -1,4 +1,3 @@
-use borrow.Author.Rules.{rules}
 use mathlib.Core.Path.{sym, ◌∙◌}
 use native.Mathlib.Omega.{arith}
 use Rattle.print_report.specs.ReportFits.{report_fits}
@@ -10,29 +9,27 @@ use Rattle.print_report.proofs.print_answer.Goals as goal
 pub returns-in-Refused-clause-outcome : goal.returns-in-Refused-clause-outcome
 returns-in-Refused-clause-outcome c =
     let r = c.in-Refused.r in
-    let unmet = run_refused c.args.x.hour r (sym c.in-Refused.is ∙ c.requires.1.outcome) in (told_as c.args.out.now (reported c.args.deck.now _ _ (unmet_report c.args.deck.now r c.args.x.hour c.requires.0.read unmet)) c.hand_refusal.ensures).0
+    let unmet = run_refused c.args.x.hour r (sym c.in-Refused.is ∙ c.requires.1.outcome) in (told_as c.args.out.now (reported c.args.deck.now _ _ (unmet_report c.args.deck.now r c.args.x.hour c.requires.0.read unmet)) (c.hand_refusal.ensures.outcome, c.hand_refusal.ensures.bytes)).0
 
 pub returns-in-Refused-clause-bytes : goal.returns-in-Refused-clause-bytes
 returns-in-Refused-clause-bytes c =
     let r = c.in-Refused.r in
-    let unmet = run_refused c.args.x.hour r (sym c.in-Refused.is ∙ c.requires.1.outcome) in (told_as c.args.out.now (reported c.args.deck.now _ _ (unmet_report c.args.deck.now r c.args.x.hour c.requires.0.read unmet)) c.hand_refusal.ensures).1
+    let unmet = run_refused c.args.x.hour r (sym c.in-Refused.is ∙ c.requires.1.outcome) in (told_as c.args.out.now (reported c.args.deck.now _ _ (unmet_report c.args.deck.now r c.args.x.hour c.requires.0.read unmet)) (c.hand_refusal.ensures.outcome, c.hand_refusal.ensures.bytes)).1
 
 pub hand_hour-requires : goal.hand_hour-requires
 hand_hour-requires c =
     let ended = c.requires.1 in
-    let told = c.enum_told-1.given in
-    let answered = run_answered c.args.deck.now c.args.x c.args.keys c.args.cells.now c.requires.0 (run_done c.args.x.hour told.0.0 ended.before c.args.cells.now (sym told.1 ∙ ended.outcome) ended.left) in
+    let answered = run_answered c.args.deck.now c.args.x c.args.keys c.args.cells.now c.requires.0 (run_done c.args.x.hour _ ended.before c.args.cells.now (sym c.in_default.is ∙ ended.outcome) ended.left) in
     answered
 
 pub put_hour-requires : goal.put_hour-requires
 put_hour-requires c =
     let ended = c.requires.1 in
-    let told = c.enum_told-1.given in
-    let answered = run_answered c.args.deck.now c.args.x c.args.keys c.args.cells.now c.requires.0 (run_done c.args.x.hour told.0.0 ended.before c.args.cells.now (sym told.1 ∙ ended.outcome) ended.left) in
-    (answered, omega (arith, report_fits c.args.deck.now, c.if-out-lt-MOST_REPORT.false))
+    let answered = run_answered c.args.deck.now c.args.x c.args.keys c.args.cells.now c.requires.0 (run_done c.args.x.hour _ ended.before c.args.cells.now (sym c.in_default.is ∙ ended.outcome) ended.left) in
+    (answered, omega (arith, report_fits c.args.deck.now))
 
 pub returns-clause-outcome : goal.returns-clause-outcome
-returns-clause-outcome c = (report_whole c.args.deck.now c.args.out.now _ _ (omega (arith, report_fits c.args.deck.now, c.if-out-lt-MOST_REPORT.false)) c.put_hour.ensures.size c.put_hour.ensures.bytes).0
+returns-clause-outcome c = (report_whole c.args.deck.now c.args.out.now _ _ (omega (arith, report_fits c.args.deck.now)) c.put_hour.ensures.size c.put_hour.ensures.bytes).0
 
 pub returns-clause-bytes : goal.returns-clause-bytes
-returns-clause-bytes c = (report_whole c.args.deck.now c.args.out.now _ _ (omega (arith, report_fits c.args.deck.now, c.if-out-lt-MOST_REPORT.false)) c.put_hour.ensures.size c.put_hour.ensures.bytes).1
+returns-clause-bytes c = (report_whole c.args.deck.now c.args.out.now _ _ (omega (arith, report_fits c.args.deck.now)) c.put_hour.ensures.size c.put_hour.ensures.bytes).1

@@ -1,4 +1,3 @@
-use borrow.Author.Rules.{rules}
 use mathlib.Core.List.{[]}
 use native.Mathlib.Omega.{arith}
 use Rattle.rules.specs.Report.{header_line, report}
@@ -18,25 +17,22 @@ sum_delivered-delivered-requires c =
     (given c.requires.0.hour).deliveries.few
 
 pub hour_amounts-amounts-requires : goal.hour_amounts-amounts-requires
-hour_amounts-amounts-requires c =
-    (
-      omega (arith, (given c.requires.0.hour).drawn, c.sum_generated-generation.ensures.0, c.sum_delivered-delivered.ensures.0),
-      omega (arith, c.sum_generated-generation.ensures.1),
-    )
+hour_amounts-amounts-requires c = (
+  omega (arith, (given c.requires.0.hour).drawn, c.sum_generated-generation.ensures.0, c.sum_delivered-delivered.ensures.0),
+  omega (arith, c.sum_generated-generation.ensures.1),
+)
 
 pub put_header-p-requires : goal.put_header-p-requires
 put_header-p-requires c =
-    let room : Room s.args.buf.now 0 (written_text s.args.deck.now s.args.x s.args.keys s.args.cells.now []) = let a = s.args in
-    whole_room (written_text a.deck.now a.x a.keys a.cells.now) (report a.deck.now) a.buf.now (report_is s.requires.0) s.requires.1 in
     let a = c.args in
+    let room : Room a.buf.now 0 (written_text a.deck.now a.x a.keys a.cells.now []) = whole_room (written_text a.deck.now a.x a.keys a.cells.now) (report a.deck.now) a.buf.now (report_is c.requires.0) c.requires.1 in
     room_as (header_same a.x.hour _ c.sum_generated-generation.result c.sum_delivered-delivered.result c.hour_amounts-amounts.ensures c.sum_generated-generation.ensures.0 c.sum_delivered-delivered.ensures.0 [])
-    (room_first (front_printed (header_line a.x.hour)) (room))
+    (room_first (front_printed (header_line a.x.hour)) room)
 
 pub put_rows-q-requires : goal.put_rows-q-requires
 put_rows-q-requires c =
-    let room : Room s.args.buf.now 0 (written_text s.args.deck.now s.args.x s.args.keys s.args.cells.now []) = let a = s.args in
-    whole_room (written_text a.deck.now a.x a.keys a.cells.now) (report a.deck.now) a.buf.now (report_is s.requires.0) s.requires.1 in
     let a = c.args in
+    let room : Room a.buf.now 0 (written_text a.deck.now a.x a.keys a.cells.now []) = whole_room (written_text a.deck.now a.x a.keys a.cells.now) (report a.deck.now) a.buf.now (report_is c.requires.0) c.requires.1 in
     let headed = inked_as (header_same c.args.x.hour _ c.sum_generated-generation.result c.sum_delivered-delivered.result c.hour_amounts-amounts.ensures c.sum_generated-generation.ensures.0 c.sum_delivered-delivered.ensures.0) c.put_header-p.ensures in
     let g = given c.requires.0.hour in (
       g.sources.few,
@@ -45,7 +41,7 @@ put_rows-q-requires c =
       deliveries_held c.requires.0,
       deliveries_short c.requires.0,
       pairs_small c.requires.0.hour,
-      room_first (front_rows a.deck.now a.x a.keys a.cells.now) (room_after headed (room)),
+      room_first (front_rows a.deck.now a.x a.keys a.cells.now) (room_after headed room),
     )
 
 pub overflow_mul-n : goal.overflow_mul-n
@@ -58,18 +54,17 @@ overflow_mul-m c =
 
 pub put_opens-r-requires : goal.put_opens-r-requires
 put_opens-r-requires c =
-    let room : Room s.args.buf.now 0 (written_text s.args.deck.now s.args.x s.args.keys s.args.cells.now []) = let a = s.args in
-    whole_room (written_text a.deck.now a.x a.keys a.cells.now) (report a.deck.now) a.buf.now (report_is s.requires.0) s.requires.1 in
     let a = c.args in
+    let room : Room a.buf.now 0 (written_text a.deck.now a.x a.keys a.cells.now []) = whole_room (written_text a.deck.now a.x a.keys a.cells.now) (report a.deck.now) a.buf.now (report_is c.requires.0) c.requires.1 in
     let headed = inked_as (header_same c.args.x.hour _ c.sum_generated-generation.result c.sum_delivered-delivered.result c.hour_amounts-amounts.ensures c.sum_generated-generation.ensures.0 c.sum_delivered-delivered.ensures.0) c.put_header-p.ensures in
-    ((given c.requires.0.hour).sources.few, sources_held c.requires.0, small c.requires.0.hour, room_first (front_left a.deck.now a.x a.cells.now) (room_after c.put_rows-q.ensures (room_after headed (room))))
+    ((given c.requires.0.hour).sources.few, sources_held c.requires.0, small c.requires.0.hour, room_first (front_left a.deck.now a.x a.cells.now) (room_after c.put_rows-q.ensures (room_after headed room)))
 
 pub put_end-requires : goal.put_end-requires
 put_end-requires c =
-    let room : Room s.args.buf.now 0 (written_text s.args.deck.now s.args.x s.args.keys s.args.cells.now []) = let a = s.args in
-    whole_room (written_text a.deck.now a.x a.keys a.cells.now) (report a.deck.now) a.buf.now (report_is s.requires.0) s.requires.1 in
+    let a = c.args in
+    let room : Room a.buf.now 0 (written_text a.deck.now a.x a.keys a.cells.now []) = whole_room (written_text a.deck.now a.x a.keys a.cells.now) (report a.deck.now) a.buf.now (report_is c.requires.0) c.requires.1 in
     let headed = inked_as (header_same c.args.x.hour _ c.sum_generated-generation.result c.sum_delivered-delivered.result c.hour_amounts-amounts.ensures c.sum_generated-generation.ensures.0 c.sum_delivered-delivered.ensures.0) c.put_header-p.ensures in
-    room_after c.put_opens-r.ensures (room_after c.put_rows-q.ensures (room_after headed (room)))
+    room_after c.put_opens-r.ensures (room_after c.put_rows-q.ensures (room_after headed room))
 
 pub returns-clause-size : goal.returns-clause-size
 returns-clause-size c =

@@ -1,14 +1,8 @@
-use borrow.Author.Rules.{rules}
-use mathlib.Core.Path.{refl}
-use mathlib.Core.List.{[]}
 use Prim.Native.Nat.{◌+◌, ◌-◌, ◌*◌, ◌≤◌}
-use native.Mathlib.Omega.{arith}
 use lib.ListN.{length}
-use Rattle.rules.specs.Words.{text}
 use Rattle.rules.specs.Hour.{open_width}
-use Rattle.write_fields.specs.Inked.{Inked, up_to, inked_as, inked_none, inked_more, inked_all, room_as, room_next}
-use Rattle.hour_lines.specs.HourCells.{part_small}
-use Rattle.print_report.specs.Rows.{open_at, front_open_at, line_same}
+use Rattle.write_fields.specs.Inked.{Inked, up_to}
+use Rattle.print_report.specs.Rows.{open_at}
 use Rattle.print_report.proofs.put_opens.Given as goal
 
 abbrev pub invariant-loop-i : goal.invariant-loop-i
@@ -16,4 +10,3 @@ invariant-loop-i l = (l.n ≤ 32) × (l.i ≤ l.n) × (l.base + l.n * open_width
 
 abbrev pub decreases-loop-i : goal.decreases-loop-i
 decreases-loop-i l = l.n - l.i
-

@@ -1,12 +1,7 @@
 use borrow.Author.Rules.{rules}
-use mathlib.Core.Path.{refl}
 use mathlib.Core.List.{[]}
-use Prim.Native.Nat.{◌+◌, ◌-◌, ◌*◌, ◌≤◌}
 use native.Mathlib.Omega.{arith}
-use lib.ListN.{length}
-use Rattle.rules.specs.Hour.{pair_width}
-use Rattle.write_fields.specs.Inked.{Inked, up_to, inked_as, inked_none, inked_more, inked_all, room_as, room_next}
-use Rattle.hour_lines.specs.HourCells.{part_small}
+use Rattle.write_fields.specs.Inked.{inked_as, inked_none, inked_more, room_as, room_next}
 use Rattle.print_report.specs.Rows.{pair_at, front_pair_at, line_same}
 use Rattle.print_report.proofs.put_row.Goals as goal
 

@@ -1,4 +1,3 @@
-use borrow.Author.Rules.{rules}
 use mathlib.Core.Path.{◌≡◌, refl}
 use Prim.Native.Nat.{ℕ, ◌*◌, ◌≤◌}
 use native.Mathlib.Nat.{mul-le-mul}
@@ -11,18 +10,18 @@ use Rattle.roundtrip.specs.GivenHour.{accepted_given}
 use Rattle.reconstruct.specs.WholeAnswer.{placeable}
 use Rattle.balance.specs.CellsAreFew.{most_cells, count_few}
 use Rattle.hour_lines.specs.HandedOver.{told_as}
-use Rattle.print_report.specs.Printing.{scanned_refused, scanned_accepted, read_deck, refused_report, reported}
+use Rattle.print_report.specs.Printing.{scanned_refused, scanned_accepted, refused_report, reported}
 use Rattle.print_report.proofs.report.Goals as goal
 
 pub returns-in-Refused-clause-outcome : goal.returns-in-Refused-clause-outcome
 returns-in-Refused-clause-outcome c =
     let r = c.in-Refused.r in
-    let refused = scanned_refused c.args.deck.now c.scan-x.result c.scan-x.ensures r c.in-Refused.is in (told_as c.args.out.now (reported c.args.deck.now _ _ (refused_report c.args.deck.now r refused)) c.hand_refusal.ensures).0
+    let refused = scanned_refused c.args.deck.now c.scan-x.result c.scan-x.ensures r c.in-Refused.is in (told_as c.args.out.now (reported c.args.deck.now _ _ (refused_report c.args.deck.now r refused)) (c.hand_refusal.ensures.outcome, c.hand_refusal.ensures.bytes)).0
 
 pub returns-in-Refused-clause-bytes : goal.returns-in-Refused-clause-bytes
 returns-in-Refused-clause-bytes c =
     let r = c.in-Refused.r in
-    let refused = scanned_refused c.args.deck.now c.scan-x.result c.scan-x.ensures r c.in-Refused.is in (told_as c.args.out.now (reported c.args.deck.now _ _ (refused_report c.args.deck.now r refused)) c.hand_refusal.ensures).1
+    let refused = scanned_refused c.args.deck.now c.scan-x.result c.scan-x.ensures r c.in-Refused.is in (told_as c.args.out.now (reported c.args.deck.now _ _ (refused_report c.args.deck.now r refused)) (c.hand_refusal.ensures.outcome, c.hand_refusal.ensures.bytes)).1
 
 pub keys-keys-requires : goal.keys-keys-requires
 keys-keys-requires c =

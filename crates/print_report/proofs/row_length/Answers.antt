@@ -1,12 +1,9 @@
 use borrow.Author.Rules.{rules}
-use mathlib.Core.Path.{◌≡◌, ap, sym, ◌∙◌}
+use mathlib.Core.Path.{ap, sym}
 use mathlib.Core.List.{[]}
-use Prim.Native.Nat.{◌+◌, ◌-◌, ◌*◌, ◌≤◌}
 use native.Mathlib.Omega.{arith}
 use lib.ListN.{length}
-use Rattle.rules.specs.Hour.{pair_width}
-use Rattle.write_fields.specs.Inked.{up_to, length_none, length_more, length_within}
-use Rattle.hour_lines.specs.HourCells.{part_small}
+use Rattle.write_fields.specs.Inked.{length_none, length_more, length_within}
 use Rattle.print_report.specs.Rows.{pair_at, front_pair_at, line_same}
 use Rattle.print_report.proofs.row_length.Goals as goal
 

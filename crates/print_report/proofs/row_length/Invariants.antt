@@ -1,13 +1,10 @@
-use borrow.Author.Rules.{rules}
-use mathlib.Core.Path.{◌≡◌, ap, sym, ◌∙◌}
+use mathlib.Core.Path.{◌≡◌}
 use mathlib.Core.List.{[]}
 use Prim.Native.Nat.{◌+◌, ◌-◌, ◌*◌, ◌≤◌}
-use native.Mathlib.Omega.{arith}
 use lib.ListN.{length}
 use Rattle.rules.specs.Hour.{pair_width}
-use Rattle.write_fields.specs.Inked.{up_to, length_none, length_more, length_within}
-use Rattle.hour_lines.specs.HourCells.{part_small}
-use Rattle.print_report.specs.Rows.{pair_at, front_pair_at, line_same}
+use Rattle.write_fields.specs.Inked.{up_to}
+use Rattle.print_report.specs.Rows.{pair_at}
 use Rattle.print_report.proofs.row_length.Given as goal
 
 abbrev pub invariant-loop-i : goal.invariant-loop-i
@@ -15,4 +12,3 @@ invariant-loop-i l = (l.n ≤ 32) × (l.i ≤ l.n) × (l.base + l.n * pair_width
 
 abbrev pub decreases-loop-i : goal.decreases-loop-i
 decreases-loop-i l = l.n - l.i
-

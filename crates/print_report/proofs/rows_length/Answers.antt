@@ -1,13 +1,12 @@
 use borrow.Author.Rules.{rules}
-use mathlib.Core.Path.{◌≡◌, refl, ap, sym, ◌∙◌}
+use mathlib.Core.Path.{refl, ap, sym}
 use mathlib.Core.List.{[]}
-use Prim.Native.Nat.{◌-◌, ◌*◌, ◌≤◌, ◌<◌}
-use native.Mathlib.Nat.{mul-le-mul}
+use Prim.Native.Nat.{◌*◌, ◌<◌}
 use native.Mathlib.Omega.{arith}
 use lib.ListN.{length, replicate}
 use Rattle.rules.specs.Hour.{pair_width, key_at}
 use Rattle.print_lines.specs.Lines.{head_text}
-use Rattle.write_fields.specs.Inked.{up_to, inked_place, length_none, length_more, length_within}
+use Rattle.write_fields.specs.Inked.{inked_place, length_none, length_more, length_within}
 use Rattle.hour_lines.specs.HourCells.{row_small}
 use Rattle.hour_lines.specs.HandedOver.{first_bytes}
 use Rattle.print_report.specs.Rows.{row_at, front_row_at, head_room, head_at_lem, row_at_held}

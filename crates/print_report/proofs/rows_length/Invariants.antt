@@ -1,16 +1,9 @@
-use borrow.Author.Rules.{rules}
-use mathlib.Core.Path.{◌≡◌, refl, ap, sym, ◌∙◌}
+use mathlib.Core.Path.{◌≡◌}
 use mathlib.Core.List.{[]}
-use Prim.Native.Nat.{◌-◌, ◌*◌, ◌≤◌, ◌<◌}
-use native.Mathlib.Nat.{mul-le-mul}
-use native.Mathlib.Omega.{arith}
-use lib.ListN.{length, replicate}
-use Rattle.rules.specs.Hour.{pair_width, key_at}
-use Rattle.print_lines.specs.Lines.{head_text}
-use Rattle.write_fields.specs.Inked.{up_to, inked_place, length_none, length_more, length_within}
-use Rattle.hour_lines.specs.HourCells.{row_small}
-use Rattle.hour_lines.specs.HandedOver.{first_bytes}
-use Rattle.print_report.specs.Rows.{row_at, front_row_at, head_room, head_at_lem, row_at_held}
+use Prim.Native.Nat.{◌-◌, ◌≤◌}
+use lib.ListN.{length}
+use Rattle.write_fields.specs.Inked.{up_to}
+use Rattle.print_report.specs.Rows.{row_at}
 use Rattle.print_report.proofs.rows_length.Given as goal
 
 abbrev pub invariant-loop-j : goal.invariant-loop-j
@@ -18,4 +11,3 @@ invariant-loop-j l = (l.n ≤ 32) × (l.m ≤ 32) × (l.j ≤ l.m) × (l.size �
 
 abbrev pub decreases-loop-j : goal.decreases-loop-j
 decreases-loop-j l = l.m - l.j
-
