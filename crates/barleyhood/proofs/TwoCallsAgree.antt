@@ -56,16 +56,16 @@ barleyhood_plain_and_price κ a r q x y = both
 
 -- the part starts so far into the deck as the code tells, and has so many bytes
 pub source_labels_lem : (κ : _) (a : _) (r : _) (code : ℕ) (x y : _) → source_label_call.Post κ a r x → barleyhood_source_label_call.Post κ a code y
-    → (r.ref_ptr.1 ≡ code / 4_294_967_296 + a.0.ptr.1) × (length r.now ≡ code % 4_294_967_296)
+    → (r.ref_ptr.1 ≡ code / 4_294_967_296 + a.0.ref_ptr.1) × (length r.now ≡ code % 4_294_967_296)
 source_labels_lem κ a r code x y p q =
     let t = codes.barleyhood_source_label κ a code y q in
-    (ap (λ (at : ℕ × ℕ). at.1) p.1 ∙ ap (λ (n : ℕ). n + a.0.ptr.1) (sym t.0), ap length p.0 ∙ sym t.1)
+    (ap (λ (at : ℕ × ℕ). at.1) p.1 ∙ ap (λ (n : ℕ). n + a.0.ref_ptr.1) (sym t.0), ap length p.0 ∙ sym t.1)
 
 pub delivery_labels_lem : (κ : _) (a : _) (r : _) (code : ℕ) (x y : _) → delivery_label_call.Post κ a r x → barleyhood_delivery_label_call.Post κ a code y
-    → (r.ref_ptr.1 ≡ code / 4_294_967_296 + a.0.ptr.1) × (length r.now ≡ code % 4_294_967_296)
+    → (r.ref_ptr.1 ≡ code / 4_294_967_296 + a.0.ref_ptr.1) × (length r.now ≡ code % 4_294_967_296)
 delivery_labels_lem κ a r code x y p q =
     let t = codes.barleyhood_delivery_label κ a code y q in
-    (ap (λ (at : ℕ × ℕ). at.1) p.1 ∙ ap (λ (n : ℕ). n + a.0.ptr.1) (sym t.0), ap length p.0 ∙ sym t.1)
+    (ap (λ (at : ℕ × ℕ). at.1) p.1 ∙ ap (λ (n : ℕ). n + a.0.ref_ptr.1) (sym t.0), ap length p.0 ∙ sym t.1)
 
 -- All labels.
 
