@@ -1,6 +1,6 @@
 -- The records of a spreadsheet file as what is written one after another.
 use Rattle.std.specs.Prelude.{◌≡◌, refl, Bool, true, false, List, [], ◌∷◌, ◌++◌, ℕ, zero, suc, ◌+◌, ◌-◌, ◌*◌, ◌≤◌, eqb, ℤ, pos, length, get_or, take, drop}
-use Rattle.std.proofs.Common.{ap, sym, ◌∙◌, append_assoc, arith, length-append}
+use Rattle.std.proofs.Common.{ap, ◌∙◌, append_assoc, arith, length-append}
 use Rattle.rules.specs.Words.{when◌then◌else◌, text}
 use Rattle.rules.specs.Fields.{digits, Chars}
 use Rattle.rules.specs.Report.{ReportLine, hour, pair, internal, end, refusal}

@@ -2,7 +2,6 @@ use mathlib.Core.Path.{◌∙◌, ap}
 use Prim.Native.Nat.{ℕ, ◌*◌, ◌/◌}
 use native.Mathlib.Omega.{arith}
 use borrow.Author.Tests.{not-true, not-false}
-use borrow.Author.Rules.{rules}
 use Rattle.merit.specs.NumbersStaySmall.{changed_small}
 use Rattle.curve.proofs.Costs.{not_based, above_b, to_b}
 use Rattle.curve.proofs.changed_cost.Goals as goal

@@ -1,7 +1,6 @@
 use mathlib.Core.Path.{◌∙◌, ap}
 use Prim.Native.Nat.{ℕ, ◌-◌}
 use native.Mathlib.Omega.{arith}
-use borrow.Author.Rules.{rules}
 use Rattle.curve.proofs.Rooms.{unit_low, unit_up, purchase_up, fixed_up}
 use Rattle.curve.proofs.headroom_of.Goals as goal
 

@@ -1,7 +1,6 @@
 use mathlib.Core.Path.{refl}
 use native.Mathlib.Omega.{arith}
-use borrow.Author.Rules.{rules}
-use Rattle.curve.proofs.Products.{bm_small, cm_small, cmm_small, sum_small, heat_small}
+use Rattle.curve.proofs.Products.{heat_small}
 use Rattle.curve.proofs.heat_of.Goals as goal
 
 pub overflow_mul-result : goal.overflow_mul-result

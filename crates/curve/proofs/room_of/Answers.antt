@@ -1,6 +1,4 @@
 use mathlib.Core.Path.{sym, ◌∙◌}
-use borrow.Author.Tests.{not-true, not-false}
-use borrow.Author.Rules.{rules}
 use Rattle.curve.proofs.Rooms.{room_none, room_is}
 use Rattle.curve.proofs.room_of.Goals as goal
 

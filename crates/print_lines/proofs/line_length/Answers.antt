@@ -1,4 +1,3 @@
-use borrow.Author.Rules.{rules}
 use native.Mathlib.Omega.{arith}
 use Rattle.print_lines.specs.Lines.{line_length}
 use Rattle.print_lines.proofs.line_length.Goals as goal

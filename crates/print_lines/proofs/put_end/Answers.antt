@@ -1,4 +1,3 @@
-use borrow.Author.Rules.{rules}
 use mathlib.Core.List.{[]}
 use Rattle.write_fields.specs.Inked.{inked_as, room_as}
 use Rattle.print_lines.specs.Lines.{end_line_lem}

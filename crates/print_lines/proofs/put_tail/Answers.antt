@@ -1,5 +1,4 @@
-use borrow.Author.Rules.{rules}
-use Rattle.write_fields.specs.Inked.{inked_then, room_first, room_after, front_byte}
+use Rattle.write_fields.specs.Inked.{room_first, room_after}
 use Rattle.write_amounts.specs.Amounts.{front_amounts}
 use Rattle.print_lines.proofs.put_tail.Goals as goal
 

@@ -1,13 +1,9 @@
 use mathlib.Core.Path.{◌≡◌, ap, sym, ◌∙◌}
 use mathlib.Core.Bool.{true}
-use Prim.Native.Nat.{◌+◌, ◌<◌}
-use native.Mathlib.Omega.{arith}
-use lib.ListN.{length, get_or}
-use borrow.Author.Rules.{rules}
-use borrow.Author.Tests.{not-true, not-false}
+use Prim.Native.Nat.{◌+◌}
+use lib.ListN.{get_or}
 use Rattle.rules.specs.Fields.{is_character}
-use Rattle.read_fields.proofs.Bytes.{byte_inside}
-use Rattle.read_records.proofs.Labels.{character_inside, quoted_none, quoted_plain, quoted_closed, quoted_doubled}
+use Rattle.read_records.proofs.Labels.{quoted_none, quoted_plain, quoted_closed, quoted_doubled}
 use Rattle.read_records.proofs.character_at.Goals as goal
 
 pub returns-then-not-is_character : goal.returns-then-not-is_character

@@ -2,7 +2,6 @@ use mathlib.Core.Path.{◌∙◌}
 use Rattle.rules.specs.Report.{end}
 use Rattle.rules.specs.Spreadsheet as spreadsheet
 use Rattle.read_records.proofs.Amounts.{line_of}
-use borrow.Author.Rules.{rules}
 use Rattle.read_records.proofs.end_at.Goals as goal
 
 pub returns-in_default : goal.returns-in_default

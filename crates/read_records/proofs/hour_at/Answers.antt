@@ -3,7 +3,6 @@ use Rattle.rules.specs.Report.{hour}
 use Rattle.rules.specs.Spreadsheet as spreadsheet
 use Rattle.rules.specs.Spreadsheet.{hour_count}
 use Rattle.read_records.proofs.Amounts.{line_of}
-use borrow.Author.Rules.{rules}
 use Rattle.read_records.proofs.hour_at.Goals as goal
 
 pub returns-in_default : goal.returns-in_default

@@ -5,7 +5,6 @@ use Rattle.rules.specs.Report.{internal}
 use Rattle.rules.specs.Spreadsheet as spreadsheet
 use Rattle.rules.specs.Spreadsheet.{open_count}
 use Rattle.read_records.proofs.Amounts.{line_of}
-use borrow.Author.Rules.{rules}
 use Rattle.read_records.proofs.internal_at.Goals as goal
 
 pub returns-in_default : goal.returns-in_default

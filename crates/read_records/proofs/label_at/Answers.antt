@@ -1,6 +1,5 @@
 use mathlib.Core.Path.{◌∙◌}
 use Rattle.rules.specs.Spreadsheet as spreadsheet
-use borrow.Author.Rules.{rules}
 use Rattle.read_records.proofs.label_at.Goals as goal
 
 pub returns-in_default : goal.returns-in_default

@@ -1,6 +1,5 @@
 use borrow.Author.Tests.{not-true, not-false}
 use Rattle.read_records.proofs.Amounts.{ends_non_zero, last_none, last_cut, last_whole}
-use borrow.Author.Rules.{rules}
 use Rattle.read_records.proofs.last_fields_at.Goals as goal
 
 pub returns-then-not-read : goal.returns-then-not-read

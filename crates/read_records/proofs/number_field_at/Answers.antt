@@ -1,4 +1,3 @@
-use borrow.Author.Rules.{rules}
 use Rattle.rules.specs.Fields.{byte_at}
 use Rattle.rules.specs.Spreadsheet as spreadsheet
 use Rattle.read_records.proofs.Texts.{passed_step}

@@ -1,13 +1,10 @@
 use mathlib.Core.Path.{◌≡◌, ap, sym, ◌∙◌}
-use Prim.Native.Nat.{◌-◌, ◌≤◌}
 use native.Mathlib.Omega.{arith}
-use lib.ListN.{length, take, length-set}
+use lib.ListN.{length-set}
 use borrow.Author.Rules.{rules}
 use mir.Syntax.{w64}
 use mir.Val.{to_z, of_z}
-use Rattle.rules.specs.Spreadsheet.{numbers_at}
 use Rattle.read_records.specs.Answers.{signed_field}
-use Rattle.read_records.proofs.Lists.{prefixed, prefixed_none}
 use Rattle.read_records.proofs.Amounts.{amounts_more, amounts_none, amounts_all}
 use Rattle.read_records.proofs.numbers_at.Goals as goal
 

@@ -1,14 +1,8 @@
-use mathlib.Core.Path.{◌≡◌, ap, sym, ◌∙◌}
+use mathlib.Core.Path.{◌≡◌}
 use Prim.Native.Nat.{◌-◌, ◌≤◌}
-use native.Mathlib.Omega.{arith}
-use lib.ListN.{length, take, length-set}
-use borrow.Author.Rules.{rules}
-use mir.Syntax.{w64}
-use mir.Val.{to_z, of_z}
+use lib.ListN.{length, take}
 use Rattle.rules.specs.Spreadsheet.{numbers_at}
-use Rattle.read_records.specs.Answers.{signed_field}
-use Rattle.read_records.proofs.Lists.{prefixed, prefixed_none}
-use Rattle.read_records.proofs.Amounts.{amounts_more, amounts_none, amounts_all}
+use Rattle.read_records.proofs.Lists.{prefixed}
 use Rattle.read_records.proofs.numbers_at.Given as goal
 
 abbrev pub invariant-loop-i : goal.invariant-loop-i
@@ -16,4 +10,3 @@ invariant-loop-i l = (length l.amounts ≡ 4) × (l.i ≤ l.n) × (prefixed (tak
 
 abbrev pub decreases-loop-i : goal.decreases-loop-i
 decreases-loop-i l = l.n - l.i
-

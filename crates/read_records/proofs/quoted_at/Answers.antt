@@ -1,13 +1,6 @@
-use mathlib.Core.Path.{◌≡◌, ap, sym, ◌∙◌}
-use mathlib.Core.Bool.{false}
-use Prim.Native.Nat.{◌-◌, ◌≤◌}
-use native.Mathlib.Omega.{arith}
-use lib.ListN.{length, take, drop, length-set}
-use borrow.Author.Rules.{rules}
-use Rattle.rules.specs.Spreadsheet.{quoted}
+use mathlib.Core.Path.{ap, sym, ◌∙◌}
 use Rattle.read_records.specs.Answers.{character_then}
-use Rattle.read_records.proofs.Lists.{prefixed, prefixed_none}
-use Rattle.read_records.proofs.Labels.{label_more, label_closed, label_open, label_full}
+use Rattle.read_records.proofs.Labels.{label_closed, label_full}
 use Rattle.read_records.proofs.quoted_at.Goals as goal
 
 pub returns-then-n-ge16 : goal.returns-then-n-ge16

@@ -1,13 +1,9 @@
-use mathlib.Core.Path.{◌≡◌, ap, sym, ◌∙◌}
+use mathlib.Core.Path.{◌≡◌}
 use mathlib.Core.Bool.{false}
 use Prim.Native.Nat.{◌-◌, ◌≤◌}
-use native.Mathlib.Omega.{arith}
-use lib.ListN.{length, take, drop, length-set}
-use borrow.Author.Rules.{rules}
+use lib.ListN.{length, take, drop}
 use Rattle.rules.specs.Spreadsheet.{quoted}
-use Rattle.read_records.specs.Answers.{character_then}
-use Rattle.read_records.proofs.Lists.{prefixed, prefixed_none}
-use Rattle.read_records.proofs.Labels.{label_more, label_closed, label_open, label_full}
+use Rattle.read_records.proofs.Lists.{prefixed}
 use Rattle.read_records.proofs.quoted_at.Given as goal
 
 abbrev pub invariant-loop-c : goal.invariant-loop-c
@@ -15,4 +11,3 @@ invariant-loop-c l = (length l.bytes ≡ 16) × (l.n ≤ 16) × (prefixed (take 
 
 abbrev pub decreases-loop-c : goal.decreases-loop-c
 decreases-loop-c l = 16 - l.n
-

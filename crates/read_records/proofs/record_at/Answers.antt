@@ -2,7 +2,6 @@ use mathlib.Core.Path.{sym, ◌∙◌}
 use lib.ListN.{get_or}
 use borrow.Author.Tests.{eq-eqb, ne_eqb}
 use Rattle.rules.specs.Spreadsheet as spreadsheet
-use borrow.Author.Rules.{rules}
 use Rattle.read_records.proofs.record_at.Goals as goal
 
 pub returns-then-b-eq104 : goal.returns-then-b-eq104

@@ -1,13 +1,8 @@
 use mathlib.Core.Bool.{true}
 use mathlib.Core.Path.{◌≡◌, ap, sym, ◌∙◌}
-use Prim.Native.Nat.{◌≤◌, ◌-◌}
 use native.Mathlib.Omega.{arith}
-use lib.ListN.{length, get_or, drop, get_or-eq_default}
-use borrow.Author.Rules.{rules}
-use borrow.Author.Tests.{not-true, not-false}
-use Rattle.rules.specs.Fields.{run, is_digit}
-use Rattle.roundtrip.specs.Numbers.{digit_from}
-use Rattle.read_records.specs.Answers.{number_field}
+use lib.ListN.{get_or, get_or-eq_default}
+use Rattle.rules.specs.Fields.{is_digit}
 use Rattle.read_records.proofs.Numbers.{cut_stop, cut_more}
 use Rattle.read_records.proofs.run_on.Goals as goal
 

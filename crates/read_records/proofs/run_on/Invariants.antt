@@ -1,14 +1,8 @@
-use mathlib.Core.Bool.{true}
-use mathlib.Core.Path.{◌≡◌, ap, sym, ◌∙◌}
+use mathlib.Core.Path.{◌≡◌}
 use Prim.Native.Nat.{◌≤◌, ◌-◌}
-use native.Mathlib.Omega.{arith}
-use lib.ListN.{length, get_or, drop, get_or-eq_default}
-use borrow.Author.Rules.{rules}
-use borrow.Author.Tests.{not-true, not-false}
-use Rattle.rules.specs.Fields.{run, is_digit}
-use Rattle.roundtrip.specs.Numbers.{digit_from}
+use lib.ListN.{length, drop}
+use Rattle.rules.specs.Fields.{run}
 use Rattle.read_records.specs.Answers.{number_field}
-use Rattle.read_records.proofs.Numbers.{cut_stop, cut_more}
 use Rattle.read_records.proofs.run_on.Given as goal
 
 abbrev pub invariant-loop-i : goal.invariant-loop-i
@@ -16,4 +10,3 @@ invariant-loop-i l = (l.v ≤ 9_223_372_036_854_775_809) × (number_field (run l
 
 abbrev pub decreases-loop-i : goal.decreases-loop-i
 decreases-loop-i l = length l.s - l.i
-

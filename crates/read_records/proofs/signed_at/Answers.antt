@@ -1,11 +1,8 @@
 use mathlib.Core.Path.{◌≡◌, sym, ◌∙◌}
 use Prim.Native.Nat.{◌+◌}
-use native.Mathlib.Omega.{arith}
 use lib.ListN.{get_or}
-use borrow.Author.Rules.{rules}
 use Rattle.rules.specs.Fields.{number_at}
 use Rattle.rules.specs.Spreadsheet.{above, below}
-use Rattle.read_fields.proofs.Bytes.{byte_inside}
 use Rattle.read_records.proofs.Numbers.{judged_cut, judged_none, above_cut, below_cut, signed_below, signed_above}
 use Rattle.read_records.proofs.signed_at.Goals as goal
 

@@ -1,8 +1,4 @@
-use mathlib.Core.Path.{◌≡◌, ◌∙◌}
-use Prim.Native.Nat.{◌-◌}
-use lib.ListN.{length, drop}
-use borrow.Author.Rules.{rules}
-use Rattle.rules.specs.Spreadsheet.{text_at}
+use mathlib.Core.Path.{◌∙◌}
 use Rattle.read_records.proofs.Texts.{non_zero, text_end, text_more, text_missing}
 use Rattle.read_records.proofs.text_at.Goals as goal
 

@@ -1,9 +1,7 @@
-use mathlib.Core.Path.{◌≡◌, ◌∙◌}
+use mathlib.Core.Path.{◌≡◌}
 use Prim.Native.Nat.{◌-◌}
 use lib.ListN.{length, drop}
-use borrow.Author.Rules.{rules}
 use Rattle.rules.specs.Spreadsheet.{text_at}
-use Rattle.read_records.proofs.Texts.{non_zero, text_end, text_more, text_missing}
 use Rattle.read_records.proofs.text_at.Given as goal
 
 abbrev pub invariant-loop-i : goal.invariant-loop-i
@@ -11,4 +9,3 @@ invariant-loop-i l = text_at l.s l.p (drop l.i l.text) ≡ text_at l.s l.at l.te
 
 abbrev pub decreases-loop-i : goal.decreases-loop-i
 decreases-loop-i l = length l.text - l.i
-

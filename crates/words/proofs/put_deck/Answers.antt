@@ -1,5 +1,4 @@
 use mathlib.Core.Path.{sym}
-use borrow.Author.Rules.{rules}
 use Rattle.rules.specs.Reading.{reading}
 use Rattle.deck.specs.Answers.{read_accepted}
 use Rattle.roundtrip.specs.DeckRoundTrip.{accepted_is_valid}

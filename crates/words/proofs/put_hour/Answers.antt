@@ -1,5 +1,4 @@
-use mathlib.Core.Path.{◌≡◌, refl}
-use borrow.Author.Rules.{rules}
+use mathlib.Core.Path.{refl}
 use Rattle.groups.specs.MwhsListed.{hour_mwhs}
 use Rattle.reconstruct.specs.WholeAnswer.{keys_of, placeable}
 use Rattle.roundtrip.specs.GivenHour.{valid_given}

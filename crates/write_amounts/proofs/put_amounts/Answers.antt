@@ -1,11 +1,9 @@
 use borrow.Author.Rules.{rules}
-use mathlib.Core.Path.{refl}
 use mathlib.Core.List.{[]}
-use Prim.Native.Nat.{◌-◌, ◌≤◌}
 use native.Mathlib.Omega.{arith}
 use lib.IntN.{pos}
 use lib.ListN.{length, get_or}
-use Rattle.write_fields.specs.Inked.{Inked, up_to, inked_as, inked_none, inked_more, inked_all, room_as, room_next}
+use Rattle.write_fields.specs.Inked.{inked_as, inked_none, inked_more, room_as, room_next}
 use Rattle.write_amounts.specs.Amounts.{amount_at, front_signed, amounts_zero}
 use Rattle.write_amounts.specs.Held.{signed_held}
 use Rattle.write_amounts.proofs.put_amounts.Goals as goal

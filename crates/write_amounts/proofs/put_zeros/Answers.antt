@@ -1,10 +1,7 @@
 use borrow.Author.Rules.{rules}
-use mathlib.Core.Path.{refl}
 use mathlib.Core.List.{◌∷◌}
-use Prim.Native.Nat.{◌-◌, ◌≤◌}
 use native.Mathlib.Omega.{arith}
-use Rattle.write_fields.specs.Inked.{Inked, inked_none, inked_more, inked_all, room_next, front_two}
-use Rattle.write_amounts.specs.Amounts.{zeros_after}
+use Rattle.write_fields.specs.Inked.{inked_none, inked_more, room_next, front_two}
 use Rattle.write_amounts.proofs.put_zeros.Goals as goal
 
 pub loop-i-init : goal.loop-i-init

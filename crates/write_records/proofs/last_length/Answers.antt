@@ -1,4 +1,3 @@
-use borrow.Author.Rules.{rules}
 use native.Mathlib.Omega.{arith}
 use Rattle.write_records.specs.Records.{last_length, last_most}
 use Rattle.write_records.proofs.last_length.Goals as goal

@@ -1,4 +1,3 @@
-use borrow.Author.Rules.{rules}
 use mathlib.Core.List.{[]}
 use borrow.Author.Tests.{ne_eqb}
 use Rattle.write_fields.specs.Inked.{inked_as, room_as}

@@ -1,11 +1,10 @@
 use borrow.Author.Rules.{rules}
-use Prim.Native.Nat.{◌≤◌, ◌-◌}
 use mathlib.Core.Path.{◌≡◌}
 use mathlib.Core.List.{[]}
 use native.Mathlib.Omega.{arith}
 use lib.ListN.{length, get_or}
 use Rattle.rules.specs.Record.{chars}
-use Rattle.write_fields.specs.Inked.{Inked, up_to, inked_none, inked_more, inked_all, room_next, room_as}
+use Rattle.write_fields.specs.Inked.{inked_none, inked_more, inked_all, room_next, room_as}
 use Rattle.write_records.specs.Records.{doubled_at, front_character, doubled_all}
 use Rattle.write_records.proofs.put_doubled.Goals as goal
 

@@ -1,7 +1,5 @@
-use borrow.Author.Rules.{rules}
-use Rattle.rules.specs.Words.{text}
 use Rattle.rules.specs.Record.{chars}
-use Rattle.write_fields.specs.Inked.{inked_then, room_first, room_after, front_byte, front_list}
+use Rattle.write_fields.specs.Inked.{inked_then, room_first, room_after}
 use Rattle.write_records.specs.Records.{front_label}
 use Rattle.write_records.proofs.put_head.Goals as goal
 

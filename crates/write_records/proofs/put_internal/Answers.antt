@@ -1,4 +1,3 @@
-use borrow.Author.Rules.{rules}
 use mathlib.Core.List.{[]}
 use Rattle.rules.specs.Words.{text}
 use Rattle.rules.specs.Record.{chars}

@@ -1,6 +1,5 @@
-use borrow.Author.Rules.{rules}
 use Rattle.rules.specs.Record.{chars}
-use Rattle.write_fields.specs.Inked.{inked_then, room_first, room_after, front_two}
+use Rattle.write_fields.specs.Inked.{room_first, room_after}
 use Rattle.write_records.specs.Records.{front_doubled}
 use Rattle.write_records.proofs.put_label.Goals as goal
 

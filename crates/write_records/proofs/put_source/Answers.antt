@@ -1,6 +1,5 @@
-use borrow.Author.Rules.{rules}
 use Rattle.rules.specs.Record.{chars}
-use Rattle.write_fields.specs.Inked.{inked_then, room_first, room_after}
+use Rattle.write_fields.specs.Inked.{room_first}
 use Rattle.write_records.specs.Records.{front_label}
 use Rattle.write_records.proofs.put_source.Goals as goal
 

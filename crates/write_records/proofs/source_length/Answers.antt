@@ -1,4 +1,3 @@
-use borrow.Author.Rules.{rules}
 use native.Mathlib.Omega.{arith}
 use Rattle.rules.specs.Record.{chars}
 use Rattle.write_records.specs.Records.{source_length}

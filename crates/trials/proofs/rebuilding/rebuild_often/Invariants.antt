@@ -1,4 +1,4 @@
-use Rattle.std.proofs.Common.{◌≡◌, ◌-◌, ◌≤◌, length, ⊎_elim, rules}
+use Rattle.std.proofs.Common.{◌≡◌, ◌-◌, ◌≤◌, length}
 use Rattle.trials.proofs.rebuilding.rebuild_often.Given as goal
 
 abbrev pub invariant-loop-turn : goal.invariant-loop-turn
@@ -6,4 +6,3 @@ invariant-loop-turn l = (l.turn ≤ l.times) × (length l.out ≡ length l.initi
 
 abbrev pub decreases-loop-turn : goal.decreases-loop-turn
 decreases-loop-turn l = l.times - l.turn
-

@@ -1,6 +1,6 @@
-use Rattle.std.proofs.Common.{◌≡◌, ℕ, ◌-◌, ◌≤◌, List, map, length, sym, ◌∙◌, arith, ext_get_or, rules}
+use Rattle.std.proofs.Common.{◌≡◌, ℕ, ◌≤◌, List, map, length, sym, ◌∙◌, arith, ext_get_or, rules}
 use lib.ListN.{length-map, get_or-map}
-use Rattle.groups.specs.StatesOpened.{Opened, opened_none, opened_more}
+use Rattle.groups.specs.StatesOpened.{Opened, opened_none}
 use Rattle.rules.specs.Group.{no_running, opened}
 use Rattle.rules.specs.Record.{no_source}
 use Rattle.rules.specs.declared.Running.{Running}

@@ -1,4 +1,4 @@
-use Rattle.std.proofs.Common.{◌≡◌, ◌-◌, ◌≤◌, length, rules}
+use Rattle.std.proofs.Common.{◌≡◌, ◌-◌, ◌≤◌, length}
 use Rattle.trials.proofs.settling.put_levels.Given as goal
 
 abbrev pub invariant-loop-i : goal.invariant-loop-i
@@ -6,4 +6,3 @@ invariant-loop-i l = (l.i ≤ 32) × (length l.levels ≡ length l.initial.level
 
 abbrev pub decreases-loop-i : goal.decreases-loop-i
 decreases-loop-i l = 32 - l.i
-

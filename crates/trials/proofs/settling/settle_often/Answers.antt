@@ -1,5 +1,4 @@
-use Rattle.std.proofs.Common.{sym, ◌∙◌, rules}
-use borrow.Author.Tests.{not-false}
+use Rattle.std.proofs.Common.{sym, ◌∙◌}
 use Rattle.groups.specs.StatesStayReady.{start_ready}
 use Rattle.ladder.specs.Ready.{AllReady}
 use Rattle.trials.proofs.settling.settle_often.Goals as goal

@@ -1,4 +1,3 @@
-use borrow.Author.Rules.{rules}
 use lib.ListN.{length}
 use mathlib.Core.Path.{◌≡◌}
 use Rattle.words.proofs.text.put_number.Given as goal
@@ -8,4 +7,3 @@ invariant-loop-unit l = length l.out ≡ length l.initial.out
 
 abbrev pub decreases-loop-unit : goal.decreases-loop-unit
 decreases-loop-unit l = l.unit
-
