@@ -3,7 +3,7 @@
    Every call reads a deck, the text that states the hour, or, the last one, a spreadsheet file; either is lent as its first byte
    and its length. A null pointer is fine where the length is 0. Nothing is kept between calls and nothing is allocated, so calls
    may run side by side; a call writes only into the cells, bytes or numbers lent to it, which must not overlap what it reads. The
-   report and the spreadsheet file of a deck take about 80 KiB of the stack, a reconstruction 46 KiB, barleyhood_check and
+   report and the spreadsheet file of a deck take about 80 KiB of the stack (measured with the older kit), a reconstruction 46 KiB, barleyhood_check and
    barleyhood_spreadsheet_lines 3 KiB, any other call 26 KiB.
 
    An answer below 2^32 is what was asked for. Any other is a refusal: its number times 2^32, and its place.
