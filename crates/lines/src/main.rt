@@ -2,6 +2,8 @@
 // run ended.
 #![tactic(auto)]
 
+ghost use Rattle.std.specs.Prelude.{◌≡◌, IfOk, vec_len};
+
 use frames::Ending;
 use rules::{Refusal, Written};
 use std::alloc::{AllocError, Global};
@@ -17,6 +19,19 @@ const WINDOW: usize = MOST + 1;
 
 // A file's lines have at most twice its bytes (file_roundtrip's LinesAreShort).
 const ROOM: usize = 2 * MOST;
+
+// Zeros, so many that the checker must not count them: a caller knows their number by these contracts.
+fn window(alloc: Global) -> Result<Vec<u8>, AllocError>
+    ensures { IfOk result (λ v. 1048577 ≡ vec_len v) }
+{
+    vec![in alloc; 0u8; WINDOW]
+}
+
+fn room(alloc: Global) -> Result<Vec<u8>, AllocError>
+    ensures { IfOk result (λ v. 2097152 ≡ vec_len v) }
+{
+    vec![in alloc; 0u8; ROOM]
+}
 
 // Words about a refused file, for a person. Where standard error is closed, nobody reads them.
 fn explain<E: Write>(errors: &mut E, file: &[u8], record: usize) {
@@ -50,7 +65,7 @@ fn put_lines<W: Write, E: Write>(
     errors: &mut E,
     file: &[u8],
 ) -> Result<Ending, AllocError> {
-    let mut text = vec![in alloc; 0u8; ROOM]?;
+    let mut text = room(alloc)?;
     Ok(match print_file::lines(file, &mut text) {
         Written::Count(n) => put_text(out, &text, n),
         Written::Refused(r) => put_refusal(out, errors, file, r),
@@ -63,7 +78,7 @@ fn run<I: Read, W: Write, E: Write>(
     out: &mut W,
     errors: &mut E,
 ) -> Result<Ending, AllocError> {
-    let mut window = vec![in alloc; 0u8; WINDOW]?;
+    let mut window = window(alloc)?;
     let g = frames::fill(input, &mut window);
     if g.failed {
         return Ok(Ending::Unread);
