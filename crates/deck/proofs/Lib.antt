@@ -1,2 +1,3 @@
--- What belongs to no one function: what the functions over the reader promise.
+-- What belongs to no one function: the reader's type in a walk, and what its functions promise.
+pub mod Held
 pub mod Promises
