@@ -1,5 +1,6 @@
 -- For each accepted hour and each source, over the cells that a call leaves: the signed MWh to deliveries and the open MWh make up g, and the signed costs
 -- and the open cost make up W(g) as it was before any direct allocation. Every cell fits 64 signed bits.
+use Rattle.std.specs.Prelude.{Ok}
 use mathlib.Core.List.{List}
 use mathlib.Core.Path.{◌≡◌, refl, sym, ap, ◌∙◌}
 use Prim.Native.Nat.{ℕ, ◌<◌}
@@ -12,7 +13,6 @@ use Rattle.balance.specs.AnswerCells.{cell_at}
 use Rattle.balance.specs.Balance.{Balances}
 use Rattle.outcomes.proofs.AccountsCloseOverTheCells.{accounts_close_over_the_cells, every_written_cell_fits}
 use Rattle.rules.specs.Answers.{written_of}
-use Rattle.rules.specs.declared.Written.TheVariants.{Count}
 use Rattle.rules.specs.Calls.{reconstruction, leaves}
 use Rattle.rules.specs.Reading.{reading}
 use Rattle.rules.specs.Refusals.{Outcome, accepted, refused, and_then}
@@ -36,15 +36,15 @@ closed h entry xs exit e f = rw f (record { balances = accounts_close_over_the_c
 
 -- Hour records.
 
-cells_closed : (h : Hour) (entry : List ℤ) (n : ℕ) (exit : List ℤ) → Count n ≡ written_of (reconstruction h (length entry)) → exit ≡ leaves (reconstruction h (length entry)) entry → Closed h n exit
+cells_closed : (h : Hour) (entry : List ℤ) (n : ℕ) (exit : List ℤ) → Ok n ≡ written_of (reconstruction h (length entry)) → exit ≡ leaves (reconstruction h (length entry)) entry → Closed h n exit
 cells_closed h entry n exit e f =
     let c = written_count (reconstruction h (length entry)) n (sym e) in
     rw (← c.2) (closed h entry c.0 exit c.1 f)
 
-pub plain : (κ : _) (a : _) (n : ℕ) (x : _) → plain_call.Post κ a (Count n) x → Closed a.0 n x.1.0.now
+pub plain : (κ : _) (a : _) (n : ℕ) (x : _) → plain_call.Post κ a (Ok n) x → Closed a.0 n x.1.0.now
 plain κ a n x p = cells_closed a.0 a.1.0.now n x.1.0.now p.0 p.1
 
-pub price : (κ : _) (a : _) (n : ℕ) (x : _) → price_call.Post κ a (Count n) x → Closed a.0 n x.1.0.now
+pub price : (κ : _) (a : _) (n : ℕ) (x : _) → price_call.Post κ a (Ok n) x → Closed a.0 n x.1.0.now
 price κ a n x p = cells_closed a.0 a.1.0.now n x.1.0.now p.0 p.1
 
 -- Decks.

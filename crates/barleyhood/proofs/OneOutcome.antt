@@ -1,10 +1,11 @@
 -- Two outcomes that a public contract allows are the same, call by call. `Post` of a call is its contract as src/ has it: it holds of the lifetimes κ, the
 -- arguments a, the result r and the parameters at exit x where all `ensures` do. So a clause that is dropped there, or that says less, is an error here.
+use Rattle.std.specs.Prelude.{Result}
+use Rattle.rules.specs.declared.Refusal.{Refusal}
 use mathlib.Core.List.{List}
 use mathlib.Core.Path.{◌≡◌, sym, ◌∙◌}
 use Prim.Native.Nat.{ℕ}
 use lib.IntN.{ℤ}
-use Rattle.rules.specs.declared.Written.{Written}
 use Rattle.barleyhood.proofs.read.Reads as read_call
 use Rattle.barleyhood.proofs.check.Reads as check_call
 use Rattle.barleyhood.proofs.source_label.Reads as source_label_call
@@ -62,13 +63,13 @@ source_label κ a r q x y = both
 pub delivery_label : OneOutcome {O = List ℕ × (ℕ × ℕ)} delivery_label_call.Post (λ κ r x. (r.now, r.ref_ptr))
 delivery_label κ a r q x y = both
 
-pub labels : OneOutcome {O = Written × List ℕ} labels_call.Post (λ κ r x. (r, x.1.0.now))
+pub labels : OneOutcome {O = (Result ℕ Refusal) × List ℕ} labels_call.Post (λ κ r x. (r, x.1.0.now))
 labels κ a r q x y = both
 
-pub report : OneOutcome {O = Written × List ℕ} report_call.Post (λ κ r x. (r, x.1.0.now))
+pub report : OneOutcome {O = (Result ℕ Refusal) × List ℕ} report_call.Post (λ κ r x. (r, x.1.0.now))
 report κ a r q x y = both
 
-pub deck_spreadsheet_lem : OneOutcome {O = Written × List ℕ} deck_spreadsheet_call.Post (λ κ r x. (r, x.1.0.now))
+pub deck_spreadsheet_lem : OneOutcome {O = (Result ℕ Refusal) × List ℕ} deck_spreadsheet_call.Post (λ κ r x. (r, x.1.0.now))
 deck_spreadsheet_lem κ a r q x y = both
 
 -- Hour records.
@@ -76,21 +77,21 @@ deck_spreadsheet_lem κ a r q x y = both
 pub valid : OneOutcome valid_call.Post (λ κ r x. r)
 valid κ a r q x y = one
 
-pub write : OneOutcome {O = Written × List ℕ} write_call.Post (λ κ r x. (r, x.1.0.now))
+pub write : OneOutcome {O = (Result ℕ Refusal) × List ℕ} write_call.Post (λ κ r x. (r, x.1.0.now))
 write κ a r q x y = both
 
-pub plain : OneOutcome {O = Written × List ℤ} plain_call.Post (λ κ r x. (r, x.1.0.now))
+pub plain : OneOutcome {O = (Result ℕ Refusal) × List ℤ} plain_call.Post (λ κ r x. (r, x.1.0.now))
 plain κ a r q x y = both
 
-pub price : OneOutcome {O = Written × List ℤ} price_call.Post (λ κ r x. (r, x.1.0.now))
+pub price : OneOutcome {O = (Result ℕ Refusal) × List ℤ} price_call.Post (λ κ r x. (r, x.1.0.now))
 price κ a r q x y = both
 
-pub spreadsheet : OneOutcome {O = Written × List ℕ} spreadsheet_call.Post (λ κ r x. (r, x.1.0.now))
+pub spreadsheet : OneOutcome {O = (Result ℕ Refusal) × List ℕ} spreadsheet_call.Post (λ κ r x. (r, x.1.0.now))
 spreadsheet κ a r q x y = both
 
 -- Spreadsheet files.
 
-pub spreadsheet_lines_lem : OneOutcome {O = Written × List ℕ} spreadsheet_lines_call.Post (λ κ r x. (r, x.1.0.now))
+pub spreadsheet_lines_lem : OneOutcome {O = (Result ℕ Refusal) × List ℕ} spreadsheet_lines_call.Post (λ κ r x. (r, x.1.0.now))
 spreadsheet_lines_lem κ a r q x y = both
 
 -- Curves, costs and refusals.

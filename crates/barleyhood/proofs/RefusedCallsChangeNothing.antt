@@ -1,4 +1,5 @@
 -- A refused call changes no lent byte, cell or number, not even those of groups that went before the one that meets 12 or 13.
+use Rattle.std.specs.Prelude.{Err}
 use mathlib.Core.List.{List}
 use mathlib.Core.Path.{◌≡◌, sym, ◌∙◌}
 use Prim.Native.Nat.{ℕ, ◌≤◌, ◌<◌}
@@ -12,7 +13,6 @@ use Rattle.rules.specs.Calls.{reconstruction, reporting, writing, deck_spreadshe
 use Rattle.rules.specs.Places.{labelling}
 use Rattle.rules.specs.Refusals.{Outcome, accepted, refused}
 use Rattle.rules.specs.declared.Refusal.{Refusal}
-use Rattle.rules.specs.declared.Written.TheVariants.{Refused}
 use Rattle.barleyhood.specs.Linked.{cells_of_deck}
 use Rattle.barleyhood.proofs.CodesTell as codes
 use Rattle.barleyhood.proofs.CodesTell.{Tells}
@@ -33,31 +33,31 @@ use Rattle.barleyhood.proofs.linked.barleyhood_price.Reads as barleyhood_price_c
 
 -- By the answer.
 
-refused_left : {A : Type 0} (o : Outcome (List A)) (r : Refusal) (entry exit : List A) → Refused r ≡ written_of o → exit ≡ leaves o entry → exit ≡ entry
+refused_left : {A : Type 0} (o : Outcome (List A)) (r : Refusal) (entry exit : List A) → Err r ≡ written_of o → exit ≡ leaves o entry → exit ≡ entry
 refused_left o r entry exit e f = f ∙ refused_leaves_the_buffer o r entry (written_refused o r (sym e))
 
-pub labels : (κ : _) (a : _) (r : Refusal) (x : _) → labels_call.Post κ a (Refused r) x → x.1.0.now ≡ a.1.0.now
+pub labels : (κ : _) (a : _) (r : Refusal) (x : _) → labels_call.Post κ a (Err r) x → x.1.0.now ≡ a.1.0.now
 labels κ a r x p = refused_left (labelling a.0.now (length a.1.0.now)) r _ _ p.0 p.1
 
-pub report : (κ : _) (a : _) (r : Refusal) (x : _) → report_call.Post κ a (Refused r) x → x.1.0.now ≡ a.1.0.now
+pub report : (κ : _) (a : _) (r : Refusal) (x : _) → report_call.Post κ a (Err r) x → x.1.0.now ≡ a.1.0.now
 report κ a r x p = refused_left (reporting a.0.now (length a.1.0.now)) r _ _ p.0 p.1
 
-pub write : (κ : _) (a : _) (r : Refusal) (x : _) → write_call.Post κ a (Refused r) x → x.1.0.now ≡ a.1.0.now
+pub write : (κ : _) (a : _) (r : Refusal) (x : _) → write_call.Post κ a (Err r) x → x.1.0.now ≡ a.1.0.now
 write κ a r x p = refused_left (writing a.0 (length a.1.0.now)) r _ _ p.0 p.1
 
-pub plain : (κ : _) (a : _) (r : Refusal) (x : _) → plain_call.Post κ a (Refused r) x → x.1.0.now ≡ a.1.0.now
+pub plain : (κ : _) (a : _) (r : Refusal) (x : _) → plain_call.Post κ a (Err r) x → x.1.0.now ≡ a.1.0.now
 plain κ a r x p = refused_left (reconstruction a.0 (length a.1.0.now)) r _ _ p.0 p.1
 
-pub price : (κ : _) (a : _) (r : Refusal) (x : _) → price_call.Post κ a (Refused r) x → x.1.0.now ≡ a.1.0.now
+pub price : (κ : _) (a : _) (r : Refusal) (x : _) → price_call.Post κ a (Err r) x → x.1.0.now ≡ a.1.0.now
 price κ a r x p = refused_left (reconstruction a.0 (length a.1.0.now)) r _ _ p.0 p.1
 
-pub deck_spreadsheet_lem : (κ : _) (a : _) (r : Refusal) (x : _) → deck_spreadsheet_call.Post κ a (Refused r) x → x.1.0.now ≡ a.1.0.now
+pub deck_spreadsheet_lem : (κ : _) (a : _) (r : Refusal) (x : _) → deck_spreadsheet_call.Post κ a (Err r) x → x.1.0.now ≡ a.1.0.now
 deck_spreadsheet_lem κ a r x p = refused_left (deck_spreadsheet a.0.now (length a.1.0.now)) r _ _ p.0 p.1
 
-pub spreadsheet : (κ : _) (a : _) (r : Refusal) (x : _) → spreadsheet_call.Post κ a (Refused r) x → x.1.0.now ≡ a.1.0.now
+pub spreadsheet : (κ : _) (a : _) (r : Refusal) (x : _) → spreadsheet_call.Post κ a (Err r) x → x.1.0.now ≡ a.1.0.now
 spreadsheet κ a r x p = refused_left (calls.spreadsheet a.0 (length a.1.0.now)) r _ _ p.0 p.1
 
-pub spreadsheet_lines_lem : (κ : _) (a : _) (r : Refusal) (x : _) → spreadsheet_lines_call.Post κ a (Refused r) x → x.1.0.now ≡ a.1.0.now
+pub spreadsheet_lines_lem : (κ : _) (a : _) (r : Refusal) (x : _) → spreadsheet_lines_call.Post κ a (Err r) x → x.1.0.now ≡ a.1.0.now
 spreadsheet_lines_lem κ a r x p = refused_left (spreadsheet_lines a.0.now (length a.1.0.now)) r _ _ p.0 p.1
 
 -- By the code: 2^32 or more tells a refusal.

@@ -2,6 +2,8 @@
 -- for every deck; the two calls that tell where a label stands, for Rattle and for C, tell the same place; and the call that tells it of all labels tells of
 -- each what the call for that one does. The spreadsheet file of a deck is that of the hour record that is read from it, and the two functions for C on
 -- files give what the calls for Rattle give.
+use Rattle.std.specs.Prelude.{Result, Ok}
+use Rattle.rules.specs.declared.Refusal.{Refusal}
 use mathlib.Core.Bool.{Bool}
 use mathlib.Core.List.{List, [], ◌∷◌, ◌++◌, append_assoc}
 use mathlib.Core.Path.{◌≡◌, refl, sym, ap, ◌∙◌}
@@ -22,11 +24,9 @@ use Rattle.rules.specs.Refusals.{Outcome, accepted, refuse, and_then}
 use Rattle.rules.specs.Words.{list_to}
 use Rattle.rules.specs.declared.Hour.{Hour}
 use Rattle.rules.specs.declared.Refusal.TheVariants.{Short}
-use Rattle.rules.specs.declared.Written.{Written}
-use Rattle.rules.specs.declared.Verdict.TheVariants.{Accepted}
 use Rattle.laws.specs.Sums.{list_to_length, list_to_read}
 use Rattle.roundtrip.specs.DeckRoundTrip.{accepted_is_valid}
-use Rattle.deck.specs.Answers.{read_accepted}
+use Rattle.laws.specs.Answers.{answer_accepted}
 use Rattle.barleyhood.specs.Linked.{answer_code}
 use Rattle.barleyhood.specs.Told.{answer_code_lem}
 use Rattle.barleyhood.proofs.OneOutcome.{Same, both}
@@ -48,7 +48,7 @@ use Rattle.barleyhood.proofs.linked.barleyhood_labels.Reads as barleyhood_labels
 use Rattle.barleyhood.proofs.linked.barleyhood_spreadsheet.Reads as barleyhood_spreadsheet_call
 use Rattle.barleyhood.proofs.linked.barleyhood_spreadsheet_lines.Reads as barleyhood_spreadsheet_lines_call
 
-pub plain_and_price : Same {O = Written × List ℤ} plain_call.Post price_call.Post (λ κ r x. (r, x.1.0.now))
+pub plain_and_price : Same {O = (Result ℕ Refusal) × List ℤ} plain_call.Post price_call.Post (λ κ r x. (r, x.1.0.now))
 plain_and_price κ a r q x y = both
 
 pub barleyhood_plain_and_price : Same {O = ℕ × List ℤ} barleyhood_plain_call.Post barleyhood_price_call.Post (λ κ r x. (r, x.1.0.now))
@@ -69,7 +69,7 @@ delivery_labels_lem κ a r code x y p q =
 
 -- All labels.
 
-pub labels : (κ : _) (a : _) (r : Written) (code : ℕ) (x y : _) → labels_call.Post κ a r x → barleyhood_labels_call.Post κ a code y
+pub labels : (κ : _) (a : _) (r : Result ℕ Refusal) (code : ℕ) (x y : _) → labels_call.Post κ a r x → barleyhood_labels_call.Post κ a code y
     → (code ≡ answer_code r) × (x.1.0.now ≡ y.1.0.now)
 labels κ a r code x y p q =
     let o = labelling a.0.now (length a.1.0.now) in
@@ -119,13 +119,13 @@ module _ (κ : _) (a : _) (code : ℕ) (x : _) (p : barleyhood_labels_call.Post 
 
 -- Spreadsheet files.
 
-pub spreadsheets : (κ : _) (a : _) (r : Written) (code : ℕ) (x y : _) → deck_spreadsheet_call.Post κ a r x → barleyhood_spreadsheet_call.Post κ a code y
+pub spreadsheets : (κ : _) (a : _) (r : Result ℕ Refusal) (code : ℕ) (x y : _) → deck_spreadsheet_call.Post κ a r x → barleyhood_spreadsheet_call.Post κ a code y
     → (code ≡ answer_code r) × (x.1.0.now ≡ y.1.0.now)
 spreadsheets κ a r code x y p q =
     let o = deck_spreadsheet a.0.now (length a.1.0.now) in
     (q.0 ∙ sym (answer_code_lem o) ∙ ap answer_code (sym p.0), p.1 ∙ sym q.1)
 
-pub lines : (κ : _) (a : _) (r : Written) (code : ℕ) (x y : _) → spreadsheet_lines_call.Post κ a r x → barleyhood_spreadsheet_lines_call.Post κ a code y
+pub lines : (κ : _) (a : _) (r : Result ℕ Refusal) (code : ℕ) (x y : _) → spreadsheet_lines_call.Post κ a r x → barleyhood_spreadsheet_lines_call.Post κ a code y
     → (code ≡ answer_code r) × (x.1.0.now ≡ y.1.0.now)
 lines κ a r code x y p q =
     let o = spreadsheet_lines a.0.now (length a.1.0.now) in
@@ -135,13 +135,13 @@ record_and_deck : (s : List ℕ) (h : Hour) (size : ℕ) → reading s ≡ accep
 unfolding calls.spreadsheet calls.deck_spreadsheet
 record_and_deck s h size e = rw (e, accepted_is_valid s h e)
 
-pub spreadsheet_of_the_hour : (κ : _) (a : _) (hour : _) (x : _) → read_call.Post κ a hour x → hour.verdict ≡ Accepted
-    → (λs : _) (b : _) (r : Written) (y : _) → spreadsheet_call.Post λs b r y → b.0 ≡ hour.hour
-    → (μs : _) (c : _) (q : Written) (z : _) → deck_spreadsheet_call.Post μs c q z → c.0.now ≡ a.0.now → c.1.0.now ≡ b.1.0.now
-    → ◌≡◌ {A = Written × List ℕ} (r, y.1.0.now) (q, z.1.0.now)
-spreadsheet_of_the_hour κ a hour x p accepts λs b r y t same μs c q z v deck lent =
+pub spreadsheet_of_the_hour : (κ : _) (a : _) (hour : Hour) (x : _) → read_call.Post κ a (Ok hour) x
+    → (λs : _) (b : _) (r : Result ℕ Refusal) (y : _) → spreadsheet_call.Post λs b r y → b.0 ≡ hour
+    → (μs : _) (c : _) (q : Result ℕ Refusal) (z : _) → deck_spreadsheet_call.Post μs c q z → c.0.now ≡ a.0.now → c.1.0.now ≡ b.1.0.now
+    → ◌≡◌ {A = (Result ℕ Refusal) × List ℕ} (r, y.1.0.now) (q, z.1.0.now)
+spreadsheet_of_the_hour κ a hour x p λs b r y t same μs c q z v deck lent =
     let out = b.1.0.now in
-    let is : reading c.0.now ≡ accepted b.0 = ap reading deck ∙ sym (read_accepted (reading a.0.now) hour p accepts) ∙ ap accepted (sym same) in
+    let is : reading c.0.now ≡ accepted b.0 = ap reading deck ∙ answer_accepted (reading a.0.now) hour (sym p) ∙ ap accepted (sym same) in
     let k : calls.spreadsheet b.0 (length out) ≡ deck_spreadsheet c.0.now (length c.1.0.now) =
     record_and_deck c.0.now b.0 (length out) is ∙ ap (λ (w : List ℕ). deck_spreadsheet c.0.now (length w)) (sym lent) in
     both

@@ -1,5 +1,6 @@
 -- Document 01, "What the promises must say": four wrong reconstructors, each ruled out by the contracts of `plain` and of `price`. The accounts of the last
 -- one close all the same (outcomes, FirstGroupBalances).
+use Rattle.std.specs.Prelude.{Result, Ok, Err}
 use mathlib.Core.Bool.{true}
 use mathlib.Core.List.{List, [], ◌++◌}
 use mathlib.Core.Path.{◌≡◌, sym, ap, ◌∙◌}
@@ -16,14 +17,12 @@ use Rattle.rules.specs.Refusals.{Outcome, accepted}
 use Rattle.rules.specs.Writing.{valid}
 use Rattle.rules.specs.declared.Hour.{Hour}
 use Rattle.rules.specs.declared.Refusal.{Refusal}
-use Rattle.rules.specs.declared.Written.{Written}
-use Rattle.rules.specs.declared.Written.TheVariants.{Count, Refused}
 use Rattle.barleyhood.proofs.plain.Reads as plain_call
 use Rattle.barleyhood.proofs.price.Reads as price_call
 
 -- a reconstructor: its answer, and what it leaves of the lent cells
 abbrev pub Reconstructor : Type 0
-Reconstructor = Hour → List ℤ → Written × List ℤ
+Reconstructor = Hour → List ℤ → (Result ℕ Refusal) × List ℤ
 
 -- called with any hour record and any lent cells, it answers and leaves what the contract allows
 abbrev pub MeetsPlain : Reconstructor → Type 0
@@ -37,7 +36,7 @@ RuledOut f = (MeetsPlain f → ⊥) × (MeetsPrice f → ⊥)
 
 -- what either contract asks for an hour that is accepted
 abbrev Right : Reconstructor → Type 0
-Right f = (h : Hour) (entry xs : List ℤ) → reconstruction h (length entry) ≡ accepted xs → ((f h entry).0 ≡ Count (length xs)) × ((f h entry).1 ≡ xs ++ drop (length xs) entry)
+Right f = (h : Hour) (entry xs : List ℤ) → reconstruction h (length entry) ≡ accepted xs → ((f h entry).0 ≡ Ok (length xs)) × ((f h entry).1 ≡ xs ++ drop (length xs) entry)
 
 -- cells lent at some place
 lent : List ℤ → MutBor (List ℤ)
@@ -59,9 +58,9 @@ ruled_out : (f : Reconstructor) → (Right f → ⊥) → RuledOut f
 ruled_out f wrong = (λ m. wrong (plain_right f m), λ m. wrong (price_right f m))
 
 -- what tells answers apart, and what tells cells apart
-count_of : Written → ℕ
-count_of (Count n) = suc n
-count_of (Refused r) = 0
+count_of : (Result ℕ Refusal) → ℕ
+count_of (Ok n) = suc n
+count_of (Err r) = 0
 
 size_of : ℤ → ℕ
 size_of (pos n) = n
@@ -72,7 +71,7 @@ cell k xs = size_of (get_or xs k (pos 0))
 
 -- The four.
 
-pub one_that_only_refuses : (f : Reconstructor) → ((h : Hour) (entry : List ℤ) → (r : Refusal) × ((f h entry).0 ≡ Refused r)) → RuledOut f
+pub one_that_only_refuses : (f : Reconstructor) → ((h : Hour) (entry : List ℤ) → (r : Refusal) × ((f h entry).0 ≡ Err r)) → RuledOut f
 unfolding count_of
 one_that_only_refuses f g = ruled_out f λ right.
     let a = right five_mwh (cells_of_open 0) (cells_of_open 5) computed.five in
@@ -84,7 +83,7 @@ unfolding cell size_of
 one_with_a_fixed_answer f g = ruled_out f λ right.
     let a = right five_mwh (cells_of_open 0) (cells_of_open 5) computed.five in
     let b = right six_mwh (cells_of_open 0) (cells_of_open 6) computed.six in
-    let c : (f five_mwh (cells_of_open 0)).1 ≡ (f six_mwh (cells_of_open 0)).1 = ap (λ (x : Written × List ℤ). x.1) (g five_mwh six_mwh (cells_of_open 0)) in
+    let c : (f five_mwh (cells_of_open 0)).1 ≡ (f six_mwh (cells_of_open 0)).1 = ap (λ (x : (Result ℕ Refusal) × List ℤ). x.1) (g five_mwh six_mwh (cells_of_open 0)) in
     let z : ◌≡◌ {A = ℕ} 5 6 = ap (cell 4) (sym a.1 ∙ c ∙ b.1) in
     absurd (omega arith)
 

@@ -1,8 +1,8 @@
 -- The calls for C: what a deck comes to as one number, a count or a refusal's code.
+use Rattle.std.specs.Prelude.{Result, Ok, Err}
+use Rattle.rules.specs.declared.Refusal.{Refusal}
 use Rattle.std.specs.Prelude.{List, ℕ, ℤ, length}
 use Rattle.refusals.specs.Codes.{code_of}
-use Rattle.rules.specs.declared.Written.{Written}
-use Rattle.rules.specs.declared.Written.TheVariants.{Count, Refused}
 use Rattle.rules.specs.Calls.{reconstruction}
 use Rattle.rules.specs.Reading.{reading}
 use Rattle.rules.specs.Refusals.{Outcome, accepted, refused, and_then}
@@ -29,6 +29,6 @@ abbrev pub written_code : {A : Type 0} → Outcome (List A) → ℕ
 written_code (accepted xs) = length xs
 written_code (refused r) = code_of r
 
-abbrev pub answer_code : Written → ℕ
-answer_code (Count n) = n
-answer_code (Refused r) = code_of r
+abbrev pub answer_code : (Result ℕ Refusal) → ℕ
+answer_code (Ok n) = n
+answer_code (Err r) = code_of r

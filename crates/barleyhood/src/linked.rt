@@ -6,15 +6,16 @@ ghost use Rattle.rules.specs.Places.{source_place, delivery_place, labelling};
 ghost use Rattle.rules.specs.Reading.{reading};
 ghost use Rattle.barleyhood.specs.Linked.{check_code, sources_code, deliveries_code, cells_of_deck, written_code, answer_code};
 
-use rules::{Verdict, Written};
+use label_places::Class;
+use rules::Refusal;
 
 // 0 for a deck that is accepted.
 pub fn barleyhood_check(s: &[u8]) -> u64
     ensures { result ≡ check_code (reading s.now) }
 {
     match deck::check_deck(s) {
-        Verdict::Accepted => 0,
-        Verdict::Refused(r) => refusals::code_of(r),
+        Ok(()) => 0,
+        Err(r) => refusals::code_of(r),
     }
 }
 
@@ -22,12 +23,9 @@ pub fn barleyhood_check(s: &[u8]) -> u64
 pub fn barleyhood_sources(s: &[u8]) -> u64
     ensures { result ≡ sources_code (reading s.now) }
 {
-    let x = deck::read(s);
-    let v = x.verdict;
-    let h = x.hour;
-    match v {
-        Verdict::Accepted => h.nsources as u64,
-        Verdict::Refused(r) => refusals::code_of(r),
+    match deck::read(s) {
+        Ok(h) => h.nsources as u64,
+        Err(r) => refusals::code_of(r),
     }
 }
 
@@ -35,22 +33,19 @@ pub fn barleyhood_sources(s: &[u8]) -> u64
 pub fn barleyhood_deliveries(s: &[u8]) -> u64
     ensures { result ≡ deliveries_code (reading s.now) }
 {
-    let x = deck::read(s);
-    let v = x.verdict;
-    let h = x.hour;
-    match v {
-        Verdict::Accepted => h.ndeliveries as u64,
-        Verdict::Refused(r) => refusals::code_of(r),
+    match deck::read(s) {
+        Ok(h) => h.ndeliveries as u64,
+        Err(r) => refusals::code_of(r),
     }
 }
 
 // How many were written, or the refusal's code.
-fn written_code(x: Written) -> u64
+fn written_code(x: Result<usize, Refusal>) -> u64
     ensures { result ≡ answer_code x }
 {
     match x {
-        Written::Count(n) => n as u64,
-        Written::Refused(r) => refusals::code_of(r),
+        Ok(n) => n as u64,
+        Err(r) => refusals::code_of(r),
     }
 }
 
@@ -59,12 +54,9 @@ pub fn barleyhood_price(s: &[u8], out: &mut [i64]) -> u64
     ensures code { result ≡ written_code (cells_of_deck s.now (length out.old)) }
     ensures cells { out.new ≡ leaves (cells_of_deck s.now (length out.old)) out.old }
 {
-    let x = deck::read(s);
-    let v = x.verdict;
-    let h = x.hour;
-    match v {
-        Verdict::Accepted => written_code(reconstruct::cells_of(h, true, out)),
-        Verdict::Refused(r) => refusals::code_of(r),
+    match deck::read(s) {
+        Ok(h) => written_code(reconstruct::cells_of(h, true, out)),
+        Err(r) => refusals::code_of(r),
     }
 }
 
@@ -73,12 +65,9 @@ pub fn barleyhood_plain(s: &[u8], out: &mut [i64]) -> u64
     ensures code { result ≡ written_code (cells_of_deck s.now (length out.old)) }
     ensures cells { out.new ≡ leaves (cells_of_deck s.now (length out.old)) out.old }
 {
-    let x = deck::read(s);
-    let v = x.verdict;
-    let h = x.hour;
-    match v {
-        Verdict::Accepted => written_code(reconstruct::cells_of(h, false, out)),
-        Verdict::Refused(r) => refusals::code_of(r),
+    match deck::read(s) {
+        Ok(h) => written_code(reconstruct::cells_of(h, false, out)),
+        Err(r) => refusals::code_of(r),
     }
 }
 
@@ -94,14 +83,14 @@ pub fn barleyhood_report(s: &[u8], out: &mut [u8]) -> u64
 pub fn barleyhood_source_label(s: &[u8], i: usize) -> u64
     ensures { result ≡ source_place s.now i }
 {
-    label_places::source_place(s, i)
+    label_places::place(s, Class::Source, i)
 }
 
 // The same of delivery j.
 pub fn barleyhood_delivery_label(s: &[u8], j: usize) -> u64
     ensures { result ≡ delivery_place s.now j }
 {
-    label_places::delivery_place(s, j)
+    label_places::place(s, Class::Delivery, j)
 }
 
 // The places of all labels, each source's and then each delivery's, and how many they are.

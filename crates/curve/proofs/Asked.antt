@@ -1,4 +1,5 @@
 -- A cost that is asked for, by the tests of the curve and the level.
+use Rattle.std.specs.Prelude.{Ok, Err}
 use mathlib.Core.Bool.{Bool, true, false, not, ◌&&◌}
 use mathlib.Core.Path.{◌≡◌, refl}
 use Prim.Native.Nat.{ℕ, ◌≤◌, ◌<◌}
@@ -7,13 +8,12 @@ use borrow.Author.Tests.{le-leb, lt-leb, leb-true}
 use lib.Dec.{leb}
 use Rattle.laws.specs.Choices.{both_true}
 use Rattle.merit.specs.NumbersStaySmall.{CurveSmall}
-use Rattle.rules.specs.Answers.{cost_answer}
+use Rattle.rules.specs.Answers.{answer_of}
 use Rattle.rules.specs.Ranges.{Range, inside, unit_level, coefficient_a, coefficient_b, coefficient_c, heat_rate}
 use Rattle.rules.specs.Refusals.{accepted, refuse}
 use Rattle.rules.specs.Units.{curve_cost, curve_inside, cost_asked}
 use Rattle.rules.specs.declared.HeatCurve.{HeatCurve}
 use Rattle.rules.specs.declared.Refusal.TheVariants.{Range as RangeAt}
-use Rattle.rules.specs.declared.CostAnswer.TheVariants.{Cost, Refused as NoCost}
 
 at_most : (x : Range) (v : ℕ) → inside x v ≡ true → v ≤ x.most
 at_most x v e = leb-true v x.most (both_true (leb x.least v) (leb v x.most) e).1
@@ -35,16 +35,16 @@ inside_small c e =
     }
 
 module _ (c : HeatCurve) (m : ℕ) where
-  pub asked_outside : curve_inside c ≡ false → NoCost (RangeAt 0) ≡ cost_answer (cost_asked c m)
+  pub asked_outside : curve_inside c ≡ false → Err (RangeAt 0) ≡ answer_of (cost_asked c m)
   asked_outside e = rw e
 
-  pub asked_high : 2000 < m → NoCost (RangeAt 0) ≡ cost_answer (cost_asked c m)
+  pub asked_high : 2000 < m → Err (RangeAt 0) ≡ answer_of (cost_asked c m)
   asked_high h = rw (lt-leb m 2000 h) (go (curve_inside c) (leb 0 m))
     where
-      go : (b d : Bool) → NoCost (RangeAt 0) ≡ cost_answer (refuse (not (b && (d && false))) (RangeAt 0) (accepted (curve_cost c m)))
+      go : (b d : Bool) → Err (RangeAt 0) ≡ answer_of (refuse (not (b && (d && false))) (RangeAt 0) (accepted (curve_cost c m)))
       go true true = refl
       go true false = refl
       go false d = refl
 
-  pub asked_inside : (w : ℕ) → curve_inside c ≡ true → m ≤ 2000 → w ≡ curve_cost c m → Cost w ≡ cost_answer (cost_asked c m)
+  pub asked_inside : (w : ℕ) → curve_inside c ≡ true → m ≤ 2000 → w ≡ curve_cost c m → Ok w ≡ answer_of (cost_asked c m)
   asked_inside w i h e = rw (e, i, le-leb 0 m (omega arith), le-leb m 2000 h)

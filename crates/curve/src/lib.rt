@@ -3,13 +3,13 @@
 #![tactic(auto)]
 
 ghost use Rattle.std.specs.Prelude.{◌≡◌, ◌+◌, ◌-◌, ◌*◌, ◌/◌, ◌≤◌, ◌<◌, max};
-ghost use Rattle.rules.specs.Answers.{cost_answer};
+ghost use Rattle.rules.specs.Answers.{answer_of};
 ghost use Rattle.rules.specs.Units.{heat, curve_cost, cost, movable, normal_low, cost_asked};
 ghost use Rattle.rules.specs.Group.{level, changed, dearer_average, open_cost, room, headroom, with_open, lowered as loweredBy, raised as raisedBy};
 ghost use Rattle.merit.specs.NumbersStaySmall.{CurveSmall, PlantSmall, Small};
 ghost use Rattle.curve.specs.Rungs.{rung_of, low_at};
 
-use rules::{CostAnswer, HeatCurve, Plant, Refusal, Running};
+use rules::{HeatCurve, Plant, Refusal, Running};
 
 // The ladder's rungs.
 #[derive(Clone, Copy)]
@@ -157,16 +157,16 @@ pub fn open_cost(s: Running) -> u64
 }
 
 // The cost at a level; refused with 3 where the level or a number of the curve is outside its range.
-pub fn cost_asked(c: HeatCurve, m: u32) -> CostAnswer
-    ensures { result ≡ cost_answer (cost_asked c m) }
+pub fn cost_asked(c: HeatCurve, m: u32) -> Result<u64, Refusal>
+    ensures { result ≡ answer_of (cost_asked c m) }
 {
     if !c.is_inside() {
-        return CostAnswer::Refused(Refusal::Range(0));
+        return Err(Refusal::Range(0));
     }
     if MOST_LEVEL < m {
-        return CostAnswer::Refused(Refusal::Range(0));
+        return Err(Refusal::Range(0));
     }
-    CostAnswer::Cost(curve_cost(c, m))
+    Ok(curve_cost(c, m))
 }
 
 fn may_move(p: Plant) -> bool

@@ -84,8 +84,7 @@ fn ends(one: &[u64; LANES], span: &[u64; LANES], cap: &[u64; LANES], n: usize, t
     let mut over: u64 = 0;
     let mut middles: u64 = 0;
     let mut count: u64 = 0;
-    let mut i = 0;
-    while i < n {
+    for i in 0..n {
         let o = one[i];
         let w = span[i];
         let end = if w == 0 {
@@ -98,7 +97,6 @@ fn ends(one: &[u64; LANES], span: &[u64; LANES], cap: &[u64; LANES], n: usize, t
         over = std::num::wrapping_add_u64(over, cap[i]);
         middles = std::num::wrapping_add_u64(middles, numbers::less(o, w / 2));
         count = std::num::wrapping_add_u64(count, numbers::least(w, 1));
-        i += 1;
     }
     let short: u64 = if n < MANY { 1 } else { 3 };
     Guess {
@@ -126,8 +124,7 @@ fn top(
 {
     let mut sum: u64 = 0;
     let mut slope: u64 = 0;
-    let mut i = 0;
-    while i < n {
+    for i in 0..n {
         let o = one[i];
         let w = span[i];
         let v = inv[i];
@@ -136,7 +133,6 @@ fn top(
         let l = if w == 1 { k } else { 0 };
         slope = std::num::wrapping_add_u64(slope, if o == p { s } else { 0 });
         sum = std::num::wrapping_add_u64(sum, if o == p { l } else { 0 });
-        i += 1;
     }
     Offer {
         sum: sum,
@@ -180,8 +176,7 @@ fn flats_at(one: &[u64; LANES], span: &[u64; LANES], cap: &[u64; LANES], n: usiz
     let mut below: u64 = 0;
     let mut level: u64 = 0;
     let mut above: u64 = FAR;
-    let mut i = 0;
-    while i < n {
+    for i in 0..n {
         let o = if span[i] == 1 { one[i] } else { 0 };
         let b = if o < p { o } else { 0 };
         let a = if p < o { o } else { FAR };
@@ -189,7 +184,6 @@ fn flats_at(one: &[u64; LANES], span: &[u64; LANES], cap: &[u64; LANES], n: usiz
         below = if below < b { b } else { below };
         above = if a < above { a } else { above };
         level = std::num::wrapping_add_u64(level, k);
-        i += 1;
     }
     Flats {
         below: below,

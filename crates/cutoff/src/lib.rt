@@ -65,15 +65,13 @@ fn supply(
 {
     let mut sum: u64 = 0;
     let mut slope: u64 = 0;
-    let mut i = 0;
-    while i < n {
+    for i in 0..n {
         let o = one[i];
         let d = step[i];
         let w = span[i];
         let v = inv[i];
         sum += count(o, d, w, v, p);
         slope = std::num::wrapping_add_u64(slope, tilt(o, d, w, v, p));
-        i += 1;
     }
     Offer {
         sum: sum,
@@ -100,6 +98,7 @@ pub fn find_mark(
         sum: 0,
     };
     let mut round: u64 = 0;
+    // Counted by hand: the edit rounds_not_counted, which leaves the counting out, must stay one that can be made.
     while round < ROUNDS {
         if guess::enough(g, total, round) {
             return best;

@@ -1,4 +1,4 @@
--- The reader's type in a walk, over a signature's one lifetime, what is known of a reader there, and of what the first line comes to.
+-- The reader's type in a walk, over a signature's one lifetime, and what is known of a reader there.
 use mathlib.Core.List.{List, [], ◌∷◌}
 use Prim.Native.Nat.{ℕ}
 use lib.Dec.{T as Holds}
@@ -18,11 +18,8 @@ use denote.Struct.Declared.{Declared}
 use denote.Struct.Laws as LL
 use denote.Struct.Values.{Values}
 use Rattle.deck.specs.declared.Reader.{Reader}
-use Rattle.deck.specs.declared.HeadStep.{HeadStep}
 use Rattle.deck.specs.contracts.Reader as T
 use Rattle.deck.proofs.Reader.TheLaws as T'
-use Rattle.deck.specs.contracts.HeadStep as S
-use Rattle.deck.proofs.HeadStep.TheLaws as S'
 
 abbrev pub Row : Lfts 1 → RattleType
 Row κs = T.the_row (named_lft 1 0 tt κs)
@@ -36,15 +33,12 @@ laws κs = T'.the_laws (named_lft 1 0 tt κs)
 abbrev pub fields : (κs : Lfts 1) → Reader → Values (Form κs).parts
 fields κs d = (d.deck, (d.at, tt))
 
--- the machine values of a reader, of a slice, and of what the first line comes to
+-- the machine values of a reader and of a slice
 abbrev pub machine : Reader → Val
 machine d = T'.lowered d
 
 abbrev pub wide : Bor (List ℕ) → Val
 wide s = slice_val s.ref_ptr (length s.now)
-
-abbrev pub stepped : HeadStep → Val
-stepped x = LL.val S.the_type S'.the_laws x
 
 module _ {M : Type 1} {𝓤 : Ura M} (𝓛 : Logic 𝓤) (κs : Lfts 1) where
   -- a reader is Copy: what it owns is had twice
@@ -53,9 +47,3 @@ module _ {M : Type 1} {𝓤 : Ura M} (𝓛 : Logic 𝓤) (κs : Lfts 1) where
 
   pub typed : (d : Reader) → Is (Row κs) d (machine d ∷ []) → Holds (has_ty (T'.mir (named 0)) (machine d)) × WT (machine d)
   typed d is = ((LL.lawful (Form κs) (laws κs) 𝓛).typed d (machine d ∷ []) is).0
-
-  pub twice_stepped : (x : HeadStep) (vs : List Val) → ent 𝓤 (sem 𝓛 ((S.the_row).own_val x vs)) (sep 𝓤 (sem 𝓛 ((S.the_row).own_val x vs)) (sem 𝓛 ((S.the_row).own_val x vs)))
-  twice_stepped = (LL.copy S.the_type S'.the_copy 𝓛).twice
-
-  pub typed_stepped : (x : HeadStep) → Is S.the_row x (stepped x ∷ []) → Holds (has_ty S'.mir (stepped x)) × WT (stepped x)
-  typed_stepped x is = ((LL.lawful S.the_type S'.the_laws 𝓛).typed x (stepped x ∷ []) is).0

@@ -3,7 +3,7 @@ pub mod Steps
 pub mod LabelBytes
 pub mod LabelsTold
 pub mod Turns
+pub mod Entries
 pub mod Rows
 pub mod FirstLine
 pub mod Head
-pub mod Checks

@@ -83,11 +83,9 @@ fn find_left(
     requires long { length left.old ≡ lanes }
     ensures { Left one.now step.now cap.now taken.now n left.new }
 {
-    let mut i = 0;
-    while i < n {
+    for i in 0..n {
         let m = next(one[i], step[i], cap[i], taken[i]);
         left[i] = m;
-        i += 1;
     }
 }
 
@@ -100,14 +98,12 @@ fn choose(up: bool, left: &[u64; LANES], n: usize) -> usize
     let more: u64 = if up { 0 } else { 1 };
     let mut best = n;
     let mut bar: u64 = 1;
-    let mut i = 0;
-    while i < n {
+    for i in 0..n {
         let m = left[i];
         if bar <= m {
             best = i;
             bar = m + more;
         }
-        i += 1;
     }
     best
 }
@@ -129,14 +125,12 @@ pub fn plain(
 {
     let mut left: [u64; LANES] = [0; LANES];
     find_left(one, step, cap, taken, n, &mut left);
-    let mut moved: u64 = 0;
-    while moved < total {
+    for moved in 0..total {
         let i = choose(up, &left, n);
         let k = taken[i] + 1;
         taken[i] = k;
         let m = next(one[i], step[i], cap[i], k);
         left[i] = m;
-        moved += 1;
     }
 }
 
@@ -158,15 +152,13 @@ fn take_above(
     ensures above { Above one.now step.now span.now inv.now n mark taken.old taken.new }
     ensures left { Left one.now step.now cap.now taken.new n left.new }
 {
-    let mut i = 0;
-    while i < n {
+    for i in 0..n {
         let o = one[i];
         let d = step[i];
         let k = cutoff::count(o, d, span[i], inv[i], mark);
         let m = next(o, d, cap[i], k);
         taken[i] = k;
         left[i] = m;
-        i += 1;
     }
 }
 
@@ -243,13 +235,11 @@ fn take_level(
         return sum;
     }
     let mut s = sum;
-    let mut i = 0;
-    while i < n {
+    for i in 0..n {
         if s == total {
             return s;
         }
         s = take_turn(up, one, step, cap, n, m, total, s, i, taken, left);
-        i += 1;
     }
     s
 }
@@ -275,6 +265,7 @@ fn take_best(
     let mut left: [u64; LANES] = [0; LANES];
     take_above(one, step, span, inv, cap, n, p.merit, taken, &mut left);
     let mut sum = p.sum;
+    // no `for`: a turn takes as many MWh as the best source gives at once
     while sum < total {
         let a = choose(up, &left, n);
         let m = left[a];
@@ -317,12 +308,10 @@ fn scale(
     requires long { (length span.old ≡ lanes) × (length inv.old ≡ lanes) }
     ensures { Table one.now step.now span.new inv.new cap.now n }
 {
-    let mut i = 0;
-    while i < n {
+    for i in 0..n {
         let s = shaped(one[i], step[i], cap[i]);
         span[i] = s.span;
         inv[i] = s.inv;
-        i += 1;
     }
 }
 
@@ -360,13 +349,11 @@ fn best_last(
 {
     let last = numbers::less(total, 1);
     let mut bar: u64 = 0;
-    let mut i = 0;
-    while i < n {
+    for i in 0..n {
         let m = next(one[i], step[i], cap[i], last);
         if bar < m {
             bar = m;
         }
-        i += 1;
     }
     bar
 }
@@ -389,13 +376,11 @@ fn find_rivals(bar: u64, one: &[u64; LANES], n: usize, places: &mut [usize; LANE
     ensures { Rivals bar one.now n places.new result }
 {
     let mut m = 0;
-    let mut i = 0;
-    while i < n {
+    for i in 0..n {
         places[m] = i;
         if bar <= one[i] {
             m += 1;
         }
-        i += 1;
     }
     m
 }
@@ -406,12 +391,10 @@ fn gather(all: &[u64; LANES], places: &[usize; LANES], m: usize, few: &mut [u64;
     requires long { length few.old ≡ lanes }
     ensures { Gathered all.now places.now m few.new }
 {
-    let mut k = 0;
-    while k < m {
+    for k in 0..m {
         let i = places[k];
         let x = all[i];
         few[k] = x;
-        k += 1;
     }
 }
 
@@ -421,12 +404,10 @@ fn spread(few: &[u64; LANES], places: &[usize; LANES], m: usize, all: &mut [u64;
     requires blank { all.old ≡ replicate lanes 0 }
     ensures { Spread few.now places.now m all.new }
 {
-    let mut k = 0;
-    while k < m {
+    for k in 0..m {
         let i = places[k];
         let x = few[k];
         all[i] = x;
-        k += 1;
     }
 }
 

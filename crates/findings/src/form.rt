@@ -1,523 +1,381 @@
 // What was met on a line that is refused with 2. The line is gone through field by field as its letter wants, up to the first byte that does not fit.
 // What is said is of that byte, or of the line's letter, and so is never other than it stands.
-use crate::lines::peek;
-use crate::{Found, counted, lines, sentences};
-use read_fields::{LabelField, NumberField};
+use crate::{Found, lines};
+
+// What is wrong with a deck or a line as a whole.
+#[derive(Clone, Copy)]
+pub enum LineFault {
+    EmptyDeck,
+    NoEnd,
+    AfterEnd,
+    OrderMark,
+    EmptyLine,
+    SpaceFirst,
+    SmallLetter,
+    NoLetter,
+    NoHead,
+    SecondHead,
+    LateDelivery,
+    LateSource,
+    NoLineEnd,
+    BreaksOff,
+    FewFields,
+    FieldMissing,
+    NotOfForm,
+}
+
+// What is wrong at one byte of a line or a record.
+#[derive(Clone, Copy)]
+pub enum ByteFault {
+    CarriageReturn,
+    Tab,
+    Control,
+    HighByte,
+    Point,
+    SpaceDue,
+    LeadingZero,
+    Sign,
+    NumberDue,
+    SmallBasis,
+    BasisDue,
+    LabelDue,
+    SecondSpace,
+    Unclosed,
+    Backslash,
+    EmptyLabel,
+    LongLabel,
+    SpaceLast,
+    PastFields,
+    PastLabel,
+    Semicolon,
+}
+
+// A fault at a place of a line, which is counted from 0.
+pub fn byte(fault: ByteFault, at: usize) -> Found<'static> {
+    Found::Byte(fault, at.saturating_add(1))
+}
+
+// Letters.
+
+#[derive(Clone, Copy, PartialEq, Eq)]
+pub enum Letter {
+    Head,
+    Unit,
+    Purchase,
+    Fixed,
+    Delivery,
+    Direct,
+    End,
+}
+
+// Where lines of a letter stand among the others.
+#[derive(Clone, Copy, PartialEq, Eq, PartialOrd, Ord)]
+enum Turn {
+    Head,
+    Sources,
+    Deliveries,
+    Directs,
+    End,
+}
 
 #[derive(Clone, Copy)]
-enum Kind {
+enum Field {
     Number,
     Basis,
     Label,
 }
 
-// Why a byte does not fit: what is due there, or what is wrong with the field that it begins.
-#[derive(Clone, Copy)]
-enum Fault {
-    Nothing,
-    Space,
-    Number,
-    Zero,
-    Basis,
-    Quote,
-    Unclosed,
-    Escape,
-    Character,
-    Empty,
-    Long,
-    LineEnd,
-}
-
-// How far the form goes.
-#[derive(Clone, Copy)]
-struct Met {
-    at: usize,
-    fault: Fault,
-}
-
-fn fields(letter: u8) -> usize {
-    match letter {
-        b'H' => 1,
-        b'U' => 11,
-        b'P' => 3,
-        b'F' => 2,
-        b'T' => 5,
-        b'D' => 4,
-        _ => 0,
-    }
-}
-
-// The kind of field k of a line, counted from 1.
-fn kind_of(letter: u8, k: usize) -> Kind {
-    if letter == b'H' {
-        return Kind::Number;
-    }
-    if letter == b'D' {
-        if k == 1 {
-            return Kind::Basis;
+impl Letter {
+    pub fn of(b: u8) -> Option<Letter> {
+        match b {
+            b'H' => Some(Letter::Head),
+            b'U' => Some(Letter::Unit),
+            b'P' => Some(Letter::Purchase),
+            b'F' => Some(Letter::Fixed),
+            b'T' => Some(Letter::Delivery),
+            b'D' => Some(Letter::Direct),
+            b'E' => Some(Letter::End),
+            _ => None,
         }
-        if k == 2 {
-            return Kind::Number;
+    }
+
+    fn turn(self) -> Turn {
+        match self {
+            Letter::Head => Turn::Head,
+            Letter::Unit | Letter::Purchase | Letter::Fixed => Turn::Sources,
+            Letter::Delivery => Turn::Deliveries,
+            Letter::Direct => Turn::Directs,
+            Letter::End => Turn::End,
         }
-        return Kind::Label;
     }
-    if k == fields(letter) {
-        return Kind::Label;
-    }
-    Kind::Number
-}
 
-fn is_digit(b: u8) -> bool {
-    if b < b'0' {
-        return false;
-    }
-    b <= b'9'
-}
-
-fn number_met(s: &[u8], at: usize, otherwise: Fault) -> Met {
-    if let NumberField::Number(_, next) = read_fields::number(s, at) {
-        return Met {
-            at: next,
-            fault: Fault::Nothing,
-        };
-    }
-    if is_digit(peek(s, at)) {
-        return Met {
-            at,
-            fault: Fault::Zero,
-        };
-    }
-    Met {
-        at,
-        fault: otherwise,
-    }
-}
-
-fn basis_met(s: &[u8], at: usize) -> Met {
-    let b = peek(s, at);
-    if b == b'L' {
-        return Met {
-            at: lines::after(s, at),
-            fault: Fault::Nothing,
-        };
-    }
-    if b == b'G' {
-        return Met {
-            at: lines::after(s, at),
-            fault: Fault::Nothing,
-        };
-    }
-    number_met(s, at, Fault::Basis)
-}
-
-// Whether a backslash and the byte after it are an escape.
-fn is_escape(s: &[u8], at: usize) -> bool {
-    let c = peek(s, lines::after(s, at));
-    if c == b'"' {
-        return true;
-    }
-    c == b'\\'
-}
-
-// Of a label that is malformed: the first byte in it that is no character, its opening quote where it is never closed, or how long it is.
-fn label_fault(s: &[u8], at: usize) -> Met {
-    let mut i = lines::after(s, at);
-    let first = i;
-    let mut escaped = false;
-    while i < s.len() {
-        let b = s[i];
-        if b == b'\n' {
-            return Met {
-                at,
-                fault: Fault::Unclosed,
-            };
+    fn fields(self) -> &'static [Field] {
+        match self {
+            Letter::Head => &[Field::Number],
+            Letter::Unit => &[
+                Field::Number,
+                Field::Number,
+                Field::Number,
+                Field::Number,
+                Field::Number,
+                Field::Number,
+                Field::Number,
+                Field::Number,
+                Field::Number,
+                Field::Number,
+                Field::Label,
+            ],
+            Letter::Purchase => &[Field::Number, Field::Number, Field::Label],
+            Letter::Fixed => &[Field::Number, Field::Label],
+            Letter::Delivery => &[
+                Field::Number,
+                Field::Number,
+                Field::Number,
+                Field::Number,
+                Field::Label,
+            ],
+            Letter::Direct => &[Field::Basis, Field::Number, Field::Label, Field::Label],
+            Letter::End => &[],
         }
-        if !read_fields::is_character(b) {
-            return Met {
-                at: i,
-                fault: Fault::Character,
-            };
-        }
-        if escaped {
-            escaped = false;
-        } else if b == b'\\' {
-            if !is_escape(s, i) {
-                return Met {
-                    at: i,
-                    fault: Fault::Escape,
-                };
-            }
-            escaped = true;
-        } else if b == b'"' {
-            return Met {
-                at,
-                fault: size_fault(first, i),
-            };
-        }
-        i += 1;
-    }
-    Met {
-        at,
-        fault: Fault::Unclosed,
     }
 }
 
-// A label that is closed and no label is empty or too long.
-fn size_fault(first: usize, quote: usize) -> Fault {
-    if quote <= first {
-        return Fault::Empty;
-    }
-    Fault::Long
-}
+// Bytes.
 
-fn label_met(s: &[u8], at: usize, quote: usize) -> Met {
-    if let LabelField::At(_, _, next) = read_fields::spaced_label(s, at) {
-        return Met {
-            at: next,
-            fault: Fault::Nothing,
-        };
-    }
-    if peek(s, quote) != b'"' {
-        return Met {
-            at: quote,
-            fault: Fault::Quote,
-        };
-    }
-    label_fault(s, quote)
-}
-
-// A space, and a field after it.
-fn field_met(s: &[u8], at: usize, kind: Kind) -> Met {
-    if peek(s, at) != b' ' {
-        return Met {
-            at,
-            fault: Fault::Space,
-        };
-    }
-    let p = lines::after(s, at);
-    match kind {
-        Kind::Number => number_met(s, p, Fault::Number),
-        Kind::Basis => basis_met(s, p),
-        Kind::Label => label_met(s, at, p),
+// Bytes that no line has anywhere.
+fn strange(b: u8) -> Option<ByteFault> {
+    match b {
+        b'\n' | b' '..=b'~' => None,
+        b'\r' => Some(ByteFault::CarriageReturn),
+        b'\t' => Some(ByteFault::Tab),
+        0..=31 => Some(ByteFault::Control),
+        _ => Some(ByteFault::HighByte),
     }
 }
 
-fn is_nothing(f: Fault) -> bool {
-    match f {
-        Fault::Nothing => true,
+// A byte that does not fit, as it is told where a line can have it; where the deck ends before it, that is told.
+fn met(line: &[u8], at: usize, end: LineFault, otherwise: Found<'static>) -> Found<'static> {
+    let Some(b) = line.get(at) else {
+        return Found::Line(end);
+    };
+    strange(*b).map_or(otherwise, |fault| byte(fault, at))
+}
+
+// Whether a point or comma stands between two digits.
+fn splits_number(line: &[u8], at: usize) -> bool {
+    match line.get(at.saturating_sub(1)..) {
+        Some([a, b'.' | b',', b, ..]) => a.is_ascii_digit() && b.is_ascii_digit(),
         _ => false,
     }
 }
 
-fn end_met(s: &[u8], at: usize) -> Met {
-    if peek(s, at) == b'\n' {
-        return Met {
-            at,
-            fault: Fault::Nothing,
-        };
-    }
-    Met {
-        at,
-        fault: Fault::LineEnd,
-    }
+// Whether nothing but spaces stands from a place to the line's end; a carriage return may close them.
+fn only_spaces(line: &[u8], at: usize) -> bool {
+    line.iter()
+        .skip(at)
+        .all(|b| matches!(*b, b' ' | b'\r' | b'\n'))
 }
 
-// The line that starts at a place, from its letter on.
-fn line_met(s: &[u8], from: usize) -> Met {
-    let letter = peek(s, from);
-    let n = fields(letter);
-    let mut at = lines::after(s, from);
-    let mut k: usize = 0;
-    while k < n {
-        k += 1;
-        let met = field_met(s, at, kind_of(letter, k));
-        let fault = met.fault;
-        if !is_nothing(fault) {
-            return met;
-        }
-        at = met.at;
-    }
-    end_met(s, at)
+fn is_after_quote(line: &[u8], at: usize) -> bool {
+    line.get(..at).is_some_and(|before| before.ends_with(b"\""))
 }
 
-// The byte, as a line of the table of what was found; its place counts from the line's start, from 1.
+// Fields: the place after each, or what is met instead.
 
-// Whether a point or comma stands between two digits.
-fn splits_number(s: &[u8], at: usize) -> bool {
-    let b = peek(s, at);
-    if b != b'.' {
-        if b != b',' {
-            return false;
-        }
+fn space_due(line: &[u8], at: usize) -> Found<'static> {
+    if splits_number(line, at) {
+        return byte(ByteFault::Point, at);
     }
-    if at == 0 {
-        return false;
+    if let Some(b'\n') = line.get(at) {
+        return Found::Line(LineFault::FewFields);
     }
-    if !is_digit(peek(s, at - 1)) {
-        return false;
-    }
-    is_digit(peek(s, lines::after(s, at)))
-}
-
-// Whether nothing but spaces stands from a place to another; a carriage return may close them.
-fn only_spaces(s: &[u8], from: usize, upto: usize) -> bool {
-    let mut i = from;
-    while i < upto {
-        let b = peek(s, i);
-        if b != b' ' {
-            if b != b'\r' {
-                return false;
-            }
-        }
-        i += 1;
-    }
-    true
-}
-
-// Bytes that no line has anywhere.
-fn is_strange(b: u8) -> bool {
-    if b == b'\n' {
-        return false;
-    }
-    !read_fields::is_character(b)
-}
-
-fn strange(b: u8) -> usize {
-    if b == b'\r' {
-        return sentences::CARRIAGE_RETURN;
-    }
-    if b == b'\t' {
-        return sentences::TAB;
-    }
-    if b < b' ' {
-        return sentences::CONTROL;
-    }
-    sentences::HIGH_BYTE
-}
-
-fn space_due(s: &[u8], at: usize) -> usize {
-    if splits_number(s, at) {
-        return sentences::POINT;
-    }
-    if peek(s, at) == b'\n' {
-        return sentences::FEW_FIELDS;
-    }
-    sentences::SPACE_DUE
+    byte(ByteFault::SpaceDue, at)
 }
 
 // After the space that stands before a field: the field that is due.
-fn field_due(s: &[u8], at: usize, due: usize) -> usize {
-    if only_spaces(s, at, lines::line_end(s, at)) {
-        return sentences::FIELD_MISSING;
+fn field_due(line: &[u8], at: usize, due: ByteFault) -> Found<'static> {
+    if only_spaces(line, at) {
+        return Found::Line(LineFault::FieldMissing);
     }
-    if peek(s, at) == b' ' {
-        return sentences::SECOND_SPACE;
+    if let Some(b' ') = line.get(at) {
+        return byte(ByteFault::SecondSpace, at);
     }
-    due
+    byte(due, at)
 }
 
-fn number_due(b: u8) -> usize {
-    match b {
-        b'-' | b'+' => sentences::SIGN,
-        _ => sentences::NUMBER_DUE,
-    }
+fn field_met(line: &[u8], at: usize, due: ByteFault) -> Found<'static> {
+    met(line, at, LineFault::BreaksOff, field_due(line, at, due))
 }
 
-fn basis_due(b: u8) -> usize {
-    match b {
-        b'l' | b'g' => sentences::SMALL_BASIS,
-        _ => sentences::BASIS_DUE,
+fn number_due(line: &[u8], at: usize) -> ByteFault {
+    match line.get(at) {
+        Some(b'-' | b'+') => ByteFault::Sign,
+        _ => ByteFault::NumberDue,
     }
 }
 
-fn is_after_quote(s: &[u8], at: usize) -> bool {
-    if at == 0 {
-        return false;
-    }
-    peek(s, at - 1) == b'"'
-}
-
-fn end_due(s: &[u8], at: usize) -> usize {
-    if only_spaces(s, at, lines::line_end(s, at)) {
-        return sentences::SPACE_LAST;
-    }
-    if splits_number(s, at) {
-        return sentences::POINT;
-    }
-    if peek(s, at) == b' ' {
-        return sentences::PAST_FIELDS;
-    }
-    if is_after_quote(s, at) {
-        return sentences::PAST_LABEL;
-    }
-    sentences::PAST_FIELDS
-}
-
-fn fault_words(s: &[u8], at: usize, fault: Fault) -> usize {
-    match fault {
-        Fault::Nothing => sentences::NOT_OF_FORM,
-        Fault::Space => space_due(s, at),
-        Fault::Number => field_due(s, at, number_due(peek(s, at))),
-        Fault::Zero => sentences::LEADING_ZERO,
-        Fault::Basis => field_due(s, at, basis_due(peek(s, at))),
-        Fault::Quote => field_due(s, at, sentences::LABEL_DUE),
-        Fault::Unclosed => sentences::UNCLOSED,
-        Fault::Escape => sentences::BACKSLASH,
-        Fault::Character => strange(peek(s, at)),
-        Fault::Empty => sentences::EMPTY_LABEL,
-        Fault::Long => sentences::LONG_LABEL,
-        Fault::LineEnd => end_due(s, at),
+fn basis_due(line: &[u8], at: usize) -> ByteFault {
+    match line.get(at) {
+        Some(b'l' | b'g') => ByteFault::SmallBasis,
+        _ => ByteFault::BasisDue,
     }
 }
 
-// Where the deck ends within the line.
-fn cut_off(fault: Fault) -> usize {
-    match fault {
-        Fault::LineEnd => sentences::NO_LF,
-        _ => sentences::BREAKS_OFF,
+fn number_end(line: &[u8], at: usize, due: ByteFault) -> Result<usize, Found<'static>> {
+    if let Some((_, next)) = read_fields::number(line, at) {
+        return Ok(next);
+    }
+    match line.get(at) {
+        Some(b'0'..=b'9') => Err(byte(ByteFault::LeadingZero, at)),
+        _ => Err(field_met(line, at, due)),
     }
 }
 
-fn met_words(s: &[u8], met: Met) -> usize {
-    let at = met.at;
-    let fault = met.fault;
-    if s.len() <= at {
-        return cut_off(fault);
+fn basis_end(line: &[u8], at: usize) -> Result<usize, Found<'static>> {
+    match line.get(at) {
+        Some(b'L' | b'G') => Ok(at + 1),
+        _ => number_end(line, at, basis_due(line, at)),
     }
-    let b = peek(s, at);
-    if is_strange(b) {
-        return strange(b);
+}
+
+// Of a label that is malformed: the first byte in it that is no character, its opening quote where it is never closed, or how long it is.
+// It is gone through by places, as an escape has two bytes and a fault is told by its place: an iterator would need a flag beside it.
+fn label_fault(line: &[u8], quote: usize) -> Found<'static> {
+    let mut at = quote.saturating_add(1);
+    let first = at;
+    while let Some(b) = line.get(at) {
+        match b {
+            b'\n' => break,
+            b'"' if at == first => return byte(ByteFault::EmptyLabel, quote),
+            b'"' => return byte(ByteFault::LongLabel, quote),
+            b'\\' => match line.get(at + 1) {
+                Some(b'"' | b'\\') => at += 1,
+                _ => return byte(ByteFault::Backslash, at),
+            },
+            _ => {
+                if let Some(fault) = strange(*b) {
+                    return byte(fault, at);
+                }
+            }
+        }
+        at += 1;
     }
-    fault_words(s, at, fault)
+    byte(ByteFault::Unclosed, quote)
+}
+
+// A label after the space before it.
+fn label_end(line: &[u8], space: usize, at: usize) -> Result<usize, Found<'static>> {
+    if let Some((_, next)) = read_fields::spaced_label(line, space) {
+        return Ok(next);
+    }
+    match line.get(at) {
+        Some(b'"') => Err(label_fault(line, at)),
+        _ => Err(field_met(line, at, ByteFault::LabelDue)),
+    }
+}
+
+// A space, and a field after it.
+fn field_end(line: &[u8], space: usize, kind: Field) -> Result<usize, Found<'static>> {
+    let Some(b' ') = line.get(space) else {
+        let due = space_due(line, space);
+        return Err(met(line, space, LineFault::BreaksOff, due));
+    };
+    let at = space + 1;
+    match kind {
+        Field::Number => number_end(line, at, number_due(line, at)),
+        Field::Basis => basis_end(line, at),
+        Field::Label => label_end(line, space, at),
+    }
+}
+
+fn end_due(line: &[u8], at: usize) -> Found<'static> {
+    if only_spaces(line, at) {
+        return byte(ByteFault::SpaceLast, at);
+    }
+    if splits_number(line, at) {
+        return byte(ByteFault::Point, at);
+    }
+    match line.get(at) {
+        Some(b' ') => byte(ByteFault::PastFields, at),
+        _ if is_after_quote(line, at) => byte(ByteFault::PastLabel, at),
+        _ => byte(ByteFault::PastFields, at),
+    }
+}
+
+// The fields of a line, from its letter on, and its LF.
+fn fields_fit(line: &[u8], letter: Letter) -> Result<(), Found<'static>> {
+    let mut at = 1;
+    for kind in letter.fields() {
+        at = field_end(line, at, *kind)?;
+    }
+    match line.get(at) {
+        Some(b'\n') => Ok(()),
+        _ => Err(met(line, at, LineFault::NoLineEnd, end_due(line, at))),
+    }
 }
 
 // The line's letter.
 
-// Its place among the letters, from 1; 0 for what is none.
-pub fn letter_place(letter: u8) -> usize {
-    match letter {
-        b'H' => 1,
-        b'U' => 2,
-        b'P' => 3,
-        b'F' => 4,
-        b'T' => 5,
-        b'D' => 6,
-        b'E' => 7,
-        _ => 0,
-    }
-}
-
-// Where lines of a letter stand among the others.
-fn turn(letter: u8) -> usize {
-    match letter {
-        b'P' | b'F' => 2,
-        _ => letter_place(letter),
-    }
-}
-
-fn is_small_letter(b: u8) -> bool {
-    match b {
-        b'h' | b'u' | b'p' | b'f' | b't' | b'd' | b'e' => true,
-        _ => false,
-    }
-}
-
-pub fn has_order_mark(s: &[u8]) -> bool {
-    if peek(s, 0) != 239 {
-        return false;
-    }
-    if peek(s, 1) != 187 {
-        return false;
-    }
-    peek(s, 2) == 191
+pub fn has_order_mark(line: &[u8]) -> bool {
+    line.starts_with(b"\xef\xbb\xbf")
 }
 
 // Of a line that begins with none of the letters.
-fn no_letter(b: u8) -> usize {
-    if b == b'\n' {
-        return sentences::EMPTY_LINE;
+fn no_letter(b: u8) -> Found<'static> {
+    match b {
+        b'\n' => Found::Line(LineFault::EmptyLine),
+        b' ' => Found::Line(LineFault::SpaceFirst),
+        b'h' | b'u' | b'p' | b'f' | b't' | b'd' | b'e' => Found::Line(LineFault::SmallLetter),
+        _ => strange(b).map_or(Found::Line(LineFault::NoLetter), |fault| byte(fault, 0)),
     }
-    if b == b' ' {
-        return sentences::SPACE_FIRST;
-    }
-    if is_small_letter(b) {
-        return sentences::SMALL_LETTER;
-    }
-    if is_strange(b) {
-        return strange(b);
-    }
-    sentences::NO_LETTER
 }
 
-// Of a line whose letter has no turn after the letter of the line above; 0 where it has.
-fn out_of_order(letter: u8, above: u8) -> usize {
-    if above == 0 {
-        if letter != b'H' {
-            return sentences::NO_HEAD;
-        }
-        return 0;
+// Of a line whose letter has no turn after the letter of the line above.
+fn out_of_order(letter: Letter, above: Option<Letter>) -> Option<LineFault> {
+    match above {
+        None if letter == Letter::Head => None,
+        None => Some(LineFault::NoHead),
+        Some(_) if letter == Letter::Head => Some(LineFault::SecondHead),
+        Some(other) if other.turn() <= letter.turn() => None,
+        Some(_) if letter == Letter::Delivery => Some(LineFault::LateDelivery),
+        Some(_) => Some(LineFault::LateSource),
     }
-    if letter == b'H' {
-        return sentences::SECOND_HEAD;
-    }
-    if turn(above) <= turn(letter) {
-        return 0;
-    }
-    if letter == b'T' {
-        return sentences::LATE_DELIVERY;
-    }
-    sentences::LATE_SOURCE
 }
 
-// What the line at a place is before its fields are looked at, after a line of this letter; 0 where its letter has its turn.
-fn letter_words(s: &[u8], from: usize, above: u8) -> usize {
-    if s.len() == 0 {
-        return sentences::EMPTY_DECK;
-    }
-    if s.len() <= from {
-        return sentences::NO_END;
-    }
-    if above == b'E' {
-        return sentences::AFTER_END;
-    }
-    if above == 0 {
-        if has_order_mark(s) {
-            return sentences::ORDER_MARK;
-        }
-    }
-    let letter = peek(s, from);
-    if letter_place(letter) == 0 {
-        return no_letter(letter);
-    }
-    out_of_order(letter, above)
+fn letter_above(above: &[u8]) -> Option<Letter> {
+    Letter::of(*lines::last_of(above)?.first()?)
 }
 
-// The letter of the line above line k; 0 for the first.
-fn letter_above(s: &[u8], k: usize) -> u8 {
-    if k < 2 {
-        return 0;
+// The letter of a line, where it has its turn.
+fn letter_of(above: &[u8], line: &[u8]) -> Result<Letter, Found<'static>> {
+    let Some(first) = line.first() else {
+        return Err(Found::Line(match above {
+            [] => LineFault::EmptyDeck,
+            _ => LineFault::NoEnd,
+        }));
+    };
+    let before = letter_above(above);
+    if before == Some(Letter::End) {
+        return Err(Found::Line(LineFault::AfterEnd));
     }
-    let above = lines::line_at(s, k - 1);
-    peek(s, above.from)
+    if above.is_empty() && has_order_mark(line) {
+        return Err(Found::Line(LineFault::OrderMark));
+    }
+    let letter = Letter::of(*first).ok_or(no_letter(*first))?;
+    match out_of_order(letter, before) {
+        Some(fault) => Err(Found::Line(fault)),
+        None => Ok(letter),
+    }
 }
 
-// More bytes than a deck or a file that is explained has.
-const FAR: u64 = 4294967296;
-
-// A place in a line, from 1.
-pub fn byte_number(from: usize, at: usize) -> u64 {
-    if at < from {
-        return 0;
-    }
-    numbers::least((at - from) as u64, FAR) + 1
+fn fitted(above: &[u8], line: &[u8]) -> Result<(), Found<'static>> {
+    fields_fit(line, letter_of(above, line)?)
 }
 
-// What was met on line k, which starts at a place.
-pub fn found(s: &[u8], k: usize, from: usize) -> Found {
-    let words = letter_words(s, from, letter_above(s, k));
-    if words != 0 {
-        return counted(words, 1, 0);
+// What was met on a line below the lines above it.
+pub fn found(above: &[u8], line: &[u8]) -> Found<'static> {
+    match fitted(above, line) {
+        Ok(()) => Found::Line(LineFault::NotOfForm),
+        Err(x) => x,
     }
-    let met = line_met(s, from);
-    counted(met_words(s, met), byte_number(from, met.at), 0)
 }

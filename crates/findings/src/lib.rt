@@ -1,4 +1,4 @@
-// What is found in a refused deck or file, for its words: a line of a table, and the numbers and parts of the deck that stand for its marks.
+// What is found in a refused deck or file, to be put in words, and the parts of the deck that the words name.
 // No contract says what is found: that is tested (tests/words). Internal: words calls it.
 #![tactic(auto)]
 
@@ -7,53 +7,98 @@ pub mod form;
 pub mod lines;
 pub mod outside;
 pub mod records;
-pub mod sentences;
 pub mod shortage;
 
-use lines::Span;
+use entries::Class;
+use form::{ByteFault, LineFault};
+use outside::Quantity;
+use records::RecordFault;
+use rules::Basis;
+use std::fmt;
+use std::fmt::Write;
 
-// A line of a table of words, from 1, and what stands for its marks: numbers for %1 to %4, parts of the deck for %5 to %7. 0 is no line.
+// A part of a deck or file. It is shown byte by byte, one that no line has as a question mark.
+#[derive(Clone, Copy, PartialEq, Eq)]
+pub struct Part<'a>(pub &'a [u8]);
+
+fn shown(b: u8) -> char {
+    if read_fields::is_character(b) {
+        char::from(b)
+    } else {
+        '?'
+    }
+}
+
+impl fmt::Display for Part<'_> {
+    fn fmt<W: fmt::Write>(&self, f: &mut fmt::Formatter<W>) -> fmt::Result {
+        for b in self.0 {
+            f.write_char(shown(*b))?;
+        }
+        Ok(())
+    }
+}
+
+// A level that a unit's line names.
 #[derive(Clone, Copy)]
-pub struct Found {
-    pub words: usize,
-    pub one: u64,
-    pub two: u64,
-    pub three: u64,
-    pub four: u64,
-    pub five: Span,
-    pub six: Span,
-    pub seven: Span,
+pub enum Level {
+    Start,
+    EmergencyLow,
+    OilPointLow,
+    NormalLow,
+    Generation,
+    High,
 }
 
-// Words with two numbers.
-pub fn counted(words: usize, one: u64, two: u64) -> Found {
-    Found {
-        words,
-        one,
-        two,
-        three: 0,
-        four: 0,
-        five: lines::nowhere(),
-        six: lines::nowhere(),
-        seven: lines::nowhere(),
-    }
+// A label that no line above has, and the first line whose label looks like it, with that label.
+#[derive(Clone, Copy)]
+pub struct Missing<'a> {
+    pub label: Part<'a>,
+    pub like: Option<(usize, Part<'a>)>,
 }
 
-// Words that have no marks.
-pub fn said(words: usize) -> Found {
-    counted(words, 0, 0)
-}
-
-// Words with a number and parts of the deck.
-pub fn named(words: usize, one: u64, five: Span, six: Span, seven: Span) -> Found {
-    Found {
-        words,
-        one,
-        two: 0,
-        three: 0,
-        four: 0,
-        five,
-        six,
-        seven,
-    }
+// What is found. Lines, and bytes of a line, are counted from 1.
+#[derive(Clone, Copy)]
+pub enum Found<'a> {
+    Line(LineFault),
+    Byte(ByteFault, usize),
+    Outside(Quantity),
+    Full(Class),
+    Used {
+        label: Part<'a>,
+        line: usize,
+    },
+    Above {
+        lower: (Level, u32),
+        upper: (Level, u32),
+    },
+    NoUnit(Missing<'a>),
+    OtherSource {
+        label: Part<'a>,
+        line: usize,
+    },
+    NoDelivery(Missing<'a>),
+    OtherBasis {
+        unit: Part<'a>,
+        line: usize,
+        first: Basis,
+        basis: Basis,
+    },
+    HighBasis {
+        unit: Part<'a>,
+        basis: Basis,
+        high: u32,
+    },
+    Percents {
+        unit: Part<'a>,
+        sum: u64,
+    },
+    Sums {
+        losses: u64,
+        delivered: u64,
+        over: u64,
+        generated: u64,
+    },
+    Unplaced,
+    Short(u64),
+    Record(RecordFault),
 }

@@ -1,212 +1,132 @@
-// Where a deck's lines stand, and what a line of its form says: its letter, its numbers and its labels.
-use read_fields::BasisField;
-use read_lines::{DeliveryLine, DirectLine, FixedLine, HeadLine, PurchaseLine, UnitLine};
+// A deck's lines, each with its LF, and what a line of its form says.
+use crate::Part;
+use ranges::UnitNumbers;
+use read_fields::Place;
 use rules::Basis;
 
-// A part of the deck: where it starts and ends.
+pub fn ends_line(b: &u8) -> bool {
+    *b == b'\n'
+}
+
+// Line k, counted from 1, and the lines above it; no bytes where the deck ends before it.
+pub fn line_at(deck: &[u8], k: usize) -> (&[u8], &[u8]) {
+    let start = deck
+        .split_inclusive(ends_line)
+        .take(k.saturating_sub(1))
+        .fold(0, |at: usize, line| at.saturating_add(line.len()));
+    let (above, rest) = deck.split_at(start.min(deck.len()));
+    (above, rest.split_inclusive(ends_line).next().unwrap_or(b""))
+}
+
+// The last of the lines above.
+pub fn last_of(above: &[u8]) -> Option<&[u8]> {
+    above.split_inclusive(ends_line).next_back()
+}
+
+// A line without its LF.
+pub fn text_of(line: &[u8]) -> &[u8] {
+    line.strip_suffix(b"\n").unwrap_or(line)
+}
+
+// A line of its form: its numbers and its labels.
 #[derive(Clone, Copy)]
-pub struct Span {
-    pub from: usize,
-    pub upto: usize,
+pub enum Entry<'a> {
+    Head {
+        losses: u32,
+    },
+    Unit {
+        numbers: UnitNumbers,
+        label: Part<'a>,
+    },
+    Purchase {
+        g: u32,
+        rate: u32,
+        label: Part<'a>,
+    },
+    Fixed {
+        g: u32,
+        label: Part<'a>,
+    },
+    Delivery {
+        sequence: u32,
+        kind: u32,
+        block: u32,
+        mwh: u32,
+        label: Part<'a>,
+    },
+    Direct {
+        basis: Basis,
+        percent: u32,
+        unit: Part<'a>,
+        delivery: Part<'a>,
+    },
 }
 
-// A line's letter, its numbers in their order (1 for a basis that is a letter), its label, and a D line's label of a delivery. No letter, 0, where the line is not of its form.
-#[derive(Clone, Copy)]
-pub struct Entry {
-    pub letter: u8,
-    pub numbers: [u32; 10],
-    pub label: Span,
-    pub other: Span,
+// The part at a place.
+pub fn part(line: &[u8], place: Place) -> Part<'_> {
+    Part(line.get(place.from..place.upto).unwrap_or(b""))
 }
 
-// The byte at a place; past the end a 0.
-pub fn peek(s: &[u8], at: usize) -> u8 {
-    if s.len() <= at {
-        return 0;
-    }
-    s[at]
+fn head(line: &[u8]) -> Option<Entry<'_>> {
+    let x = read_lines::head(line, 1)?;
+    Some(Entry::Head { losses: x.losses })
 }
 
-// The place after a byte of the deck.
-pub fn after(s: &[u8], at: usize) -> usize {
-    if s.len() <= at {
-        return at;
-    }
-    at + 1
+fn unit(line: &[u8]) -> Option<Entry<'_>> {
+    let x = read_lines::unit(line, 1)?;
+    Some(Entry::Unit {
+        numbers: x.numbers,
+        label: part(line, x.label),
+    })
 }
 
-// Where a line ends: at its LF, or with the deck.
-pub fn line_end(s: &[u8], from: usize) -> usize {
-    let mut i = from;
-    while i < s.len() {
-        if s[i] == b'\n' {
-            return i;
-        }
-        i += 1;
-    }
-    i
+fn purchase(line: &[u8]) -> Option<Entry<'_>> {
+    let x = read_lines::purchase(line, 1)?;
+    Some(Entry::Purchase {
+        g: x.g,
+        rate: x.rate,
+        label: part(line, x.label),
+    })
 }
 
-// Where line k starts, counted from 1.
-fn line_start(s: &[u8], k: usize) -> usize {
-    let mut at: usize = 0;
-    let mut line: usize = 1;
-    while line < k {
-        at = after(s, line_end(s, at));
-        line += 1;
-    }
-    at
+fn fixed(line: &[u8]) -> Option<Entry<'_>> {
+    let x = read_lines::fixed(line, 1)?;
+    Some(Entry::Fixed {
+        g: x.g,
+        label: part(line, x.label),
+    })
 }
 
-// Line k without its LF; there is no line 0.
-pub fn line_at(s: &[u8], k: usize) -> Span {
-    if k == 0 {
-        return nowhere();
-    }
-    let from = line_start(s, k);
-    Span {
-        from: from,
-        upto: line_end(s, from),
-    }
+fn delivery(line: &[u8]) -> Option<Entry<'_>> {
+    let x = read_lines::delivery(line, 1)?;
+    Some(Entry::Delivery {
+        sequence: x.sequence,
+        kind: x.kind,
+        block: x.block,
+        mwh: x.mwh,
+        label: part(line, x.label),
+    })
 }
 
-pub fn nowhere() -> Span {
-    Span { from: 0, upto: 0 }
+fn direct(line: &[u8]) -> Option<Entry<'_>> {
+    let x = read_lines::direct(line, 1)?;
+    Some(Entry::Direct {
+        basis: x.basis,
+        percent: x.percent,
+        unit: part(line, x.unit),
+        delivery: part(line, x.delivery),
+    })
 }
 
-fn no_entry() -> Entry {
-    Entry {
-        letter: 0,
-        numbers: [0u32; 10],
-        label: nowhere(),
-        other: nowhere(),
+// What a line says, where it is of its form.
+pub fn entry_of(line: &[u8]) -> Option<Entry<'_>> {
+    match line.first()? {
+        b'H' => head(line),
+        b'U' => unit(line),
+        b'P' => purchase(line),
+        b'F' => fixed(line),
+        b'T' => delivery(line),
+        b'D' => direct(line),
+        _ => None,
     }
-}
-
-fn head_entry(s: &[u8], at: usize) -> Entry {
-    let HeadLine::Read(losses, _) = read_lines::head(s, at) else {
-        return no_entry();
-    };
-    Entry {
-        letter: b'H',
-        numbers: [losses, 0, 0, 0, 0, 0, 0, 0, 0, 0],
-        label: nowhere(),
-        other: nowhere(),
-    }
-}
-
-fn unit_entry(s: &[u8], at: usize) -> Entry {
-    let UnitLine::Read(x, from, upto, _) = read_lines::unit(s, at) else {
-        return no_entry();
-    };
-    Entry {
-        letter: b'U',
-        numbers: [x.g, x.h, x.n, x.o, x.e, x.k, x.a, x.b, x.c, x.r],
-        label: Span { from, upto },
-        other: nowhere(),
-    }
-}
-
-fn purchase_entry(s: &[u8], at: usize) -> Entry {
-    let PurchaseLine::Read(g, rate, from, upto, _) = read_lines::purchase(s, at) else {
-        return no_entry();
-    };
-    Entry {
-        letter: b'P',
-        numbers: [g, rate, 0, 0, 0, 0, 0, 0, 0, 0],
-        label: Span { from, upto },
-        other: nowhere(),
-    }
-}
-
-fn fixed_entry(s: &[u8], at: usize) -> Entry {
-    let FixedLine::Read(g, from, upto, _) = read_lines::fixed(s, at) else {
-        return no_entry();
-    };
-    Entry {
-        letter: b'F',
-        numbers: [g, 0, 0, 0, 0, 0, 0, 0, 0, 0],
-        label: Span { from, upto },
-        other: nowhere(),
-    }
-}
-
-fn delivery_entry(s: &[u8], at: usize) -> Entry {
-    let DeliveryLine::Read(sequence, kind, block, mwh, from, upto, _) = read_lines::delivery(s, at)
-    else {
-        return no_entry();
-    };
-    Entry {
-        letter: b'T',
-        numbers: [sequence, kind, block, mwh, 0, 0, 0, 0, 0, 0],
-        label: Span { from, upto },
-        other: nowhere(),
-    }
-}
-
-fn basis_number(b: Basis) -> u32 {
-    match b {
-        Basis::Low => 1,
-        Basis::Generation => 1,
-        Basis::Mwh(v) => v,
-    }
-}
-
-fn direct_entry(s: &[u8], at: usize) -> Entry {
-    let DirectLine::Read(basis, percent, from, upto, begin, end, _) = read_lines::direct(s, at)
-    else {
-        return no_entry();
-    };
-    Entry {
-        letter: b'D',
-        numbers: [basis_number(basis), percent, 0, 0, 0, 0, 0, 0, 0, 0],
-        label: Span { from, upto },
-        other: Span {
-            from: begin,
-            upto: end,
-        },
-    }
-}
-
-// What the line that starts at a place says.
-pub fn entry_at(s: &[u8], from: usize) -> Entry {
-    let at = after(s, from);
-    match peek(s, from) {
-        b'H' => head_entry(s, at),
-        b'U' => unit_entry(s, at),
-        b'P' => purchase_entry(s, at),
-        b'F' => fixed_entry(s, at),
-        b'T' => delivery_entry(s, at),
-        b'D' => direct_entry(s, at),
-        _ => no_entry(),
-    }
-}
-
-// The basis of the D line that starts at a place, as it is written.
-pub fn basis_at(s: &[u8], from: usize) -> Span {
-    let at = after(s, from);
-    let BasisField::Basis(_, next) = read_fields::spaced_basis(s, at) else {
-        return nowhere();
-    };
-    Span {
-        from: after(s, at),
-        upto: next,
-    }
-}
-
-// Labels and bases are the same where their bytes are.
-pub fn same_part(s: &[u8], a: Span, b: Span) -> bool {
-    let mut i = a.from;
-    let mut j = b.from;
-    while i < a.upto {
-        if peek(s, i) != peek(s, j) {
-            return false;
-        }
-        i += 1;
-        j = after(s, j);
-    }
-    if i != a.upto {
-        return false;
-    }
-    j == b.upto
 }

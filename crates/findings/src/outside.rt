@@ -1,146 +1,101 @@
-// Which number of a line is outside its range (3): the ranges of document 01 by a line's letter.
-ghost use Rattle.std.specs.Prelude.{◌≤◌};
-
+// Which number of a line is outside its range (3).
 use crate::lines::Entry;
-use crate::{Found, counted, said, sentences};
+use rules::{Basis, HeatCurve};
+use std::ops::RangeInclusive;
 
-// The least and the most that number k of a line may be, counted from 0.
+// What a line's number tells. `G` is what a purchase or a fixed source generates.
 #[derive(Clone, Copy)]
-struct Range {
-    least: u32,
-    most: u32,
+pub enum Quantity {
+    Losses,
+    Generation,
+    High,
+    NormalLow,
+    OilPointLow,
+    EmergencyLow,
+    Start,
+    A,
+    B,
+    C,
+    R,
+    G,
+    Rate,
+    Sequence,
+    Type,
+    Block,
+    Mwh,
+    Basis,
+    Percent,
 }
 
-fn unit_range(k: usize) -> Range {
-    match k {
-        0 | 1 | 2 | 3 | 4 | 5 => Range {
-            least: 1,
-            most: 2000,
-        },
-        6 => Range {
-            least: 0,
-            most: 999_999,
-        },
-        7 => Range {
-            least: 0,
-            most: 99_999,
-        },
-        8 => Range { least: 0, most: 99 },
-        _ => Range {
-            least: 0,
-            most: 39_996,
-        },
-    }
-}
-
-fn purchase_range(k: usize) -> Range {
-    if k == 0 {
-        return Range {
-            least: 0,
-            most: 2000,
-        };
-    }
-    Range {
-        least: 0,
-        most: 999_999,
-    }
-}
-
-fn delivery_range(k: usize) -> Range {
-    match k {
-        0 => Range { least: 0, most: 99 },
-        1 | 2 => Range { least: 1, most: 9 },
-        _ => Range {
-            least: 0,
-            most: 2000,
-        },
-    }
-}
-
-fn direct_range(k: usize) -> Range {
-    if k == 0 {
-        return Range {
-            least: 1,
-            most: 1999,
-        };
-    }
-    Range {
-        least: 1,
-        most: 100,
-    }
-}
-
-fn range_of(letter: u8, k: usize) -> Range {
-    match letter {
-        b'U' => unit_range(k),
-        b'P' => purchase_range(k),
-        b'T' => delivery_range(k),
-        b'D' => direct_range(k),
-        b'F' => Range {
-            least: 0,
-            most: 2000,
-        },
-        _ => Range {
-            least: 0,
-            most: 64_000,
-        },
-    }
-}
-
-// How many numbers a line has.
-fn count(letter: u8) -> usize {
-    match letter {
-        b'U' => 10,
-        b'T' => 4,
-        b'P' | b'D' => 2,
-        b'H' | b'F' => 1,
-        _ => 0,
-    }
-}
-
-// The words for a letter's first number.
-fn first_words(letter: u8) -> usize
-    ensures { result ≤ 100 }
-{
-    match letter {
-        b'H' => sentences::OUTSIDE,
-        b'U' => sentences::OUTSIDE + 1,
-        b'P' => sentences::OUTSIDE + 11,
-        b'F' => sentences::OUTSIDE + 13,
-        b'T' => sentences::OUTSIDE + 14,
-        _ => sentences::OUTSIDE + 18,
-    }
-}
-
-fn is_outside(x: u32, r: Range) -> bool {
-    if x < r.least {
-        return true;
-    }
-    r.most < x
-}
-
-// The first number of a line that is outside its range, counted from 0; 10 where none is.
-fn first_outside(e: Entry) -> usize {
-    let n = count(e.letter);
-    let mut k: usize = 0;
-    while k < 10 {
-        let x = e.numbers[k];
-        if k < n {
-            if is_outside(x, range_of(e.letter, k)) {
-                return k;
-            }
+impl Quantity {
+    pub fn range(self) -> RangeInclusive<u32> {
+        match self {
+            Quantity::Losses => 0..=ranges::MOST_LOSSES,
+            Quantity::Generation
+            | Quantity::High
+            | Quantity::NormalLow
+            | Quantity::OilPointLow
+            | Quantity::EmergencyLow => ranges::LEAST_LEVEL..=ranges::MOST_LEVEL,
+            Quantity::Start => HeatCurve::LEAST_START..=HeatCurve::MOST_START,
+            Quantity::A => 0..=HeatCurve::MOST_A,
+            Quantity::B => 0..=HeatCurve::MOST_B,
+            Quantity::C => 0..=HeatCurve::MOST_C,
+            Quantity::R => 0..=HeatCurve::MOST_RATE,
+            Quantity::G | Quantity::Mwh => 0..=ranges::MOST_ENERGY,
+            Quantity::Rate => 0..=ranges::MOST_PURCHASE_RATE,
+            Quantity::Sequence => 0..=ranges::MOST_SEQUENCE,
+            Quantity::Type => ranges::LEAST_TYPE..=ranges::MOST_TYPE,
+            Quantity::Block => ranges::LEAST_BLOCK..=ranges::MOST_BLOCK,
+            Quantity::Basis => ranges::LEAST_BASIS..=ranges::MOST_BASIS,
+            Quantity::Percent => ranges::LEAST_PERCENT..=ranges::MOST_PERCENT,
         }
-        k += 1;
     }
-    10
 }
 
-pub fn found(e: Entry) -> Found {
-    let k = first_outside(e);
-    if 9 < k {
-        return said(0);
+fn first_outside(numbers: &[(Quantity, u32)]) -> Option<Quantity> {
+    let (quantity, _) = numbers.iter().find(|(what, x)| !what.range().contains(x))?;
+    Some(*quantity)
+}
+
+fn of_direct(basis: Basis, percent: u32) -> Option<Quantity> {
+    match basis {
+        Basis::Mwh(v) => first_outside(&[(Quantity::Basis, v), (Quantity::Percent, percent)]),
+        Basis::Low | Basis::Generation => first_outside(&[(Quantity::Percent, percent)]),
     }
-    let r = range_of(e.letter, k);
-    let words = first_words(e.letter) + k;
-    counted(words, r.least as u64, r.most as u64)
+}
+
+// The first number of a line that is outside its range.
+pub fn found(e: Entry) -> Option<Quantity> {
+    match e {
+        Entry::Head { losses } => first_outside(&[(Quantity::Losses, losses)]),
+        Entry::Unit { numbers: x, .. } => first_outside(&[
+            (Quantity::Generation, x.g),
+            (Quantity::High, x.h),
+            (Quantity::NormalLow, x.n),
+            (Quantity::OilPointLow, x.o),
+            (Quantity::EmergencyLow, x.e),
+            (Quantity::Start, x.k),
+            (Quantity::A, x.a),
+            (Quantity::B, x.b),
+            (Quantity::C, x.c),
+            (Quantity::R, x.r),
+        ]),
+        Entry::Purchase { g, rate, .. } => {
+            first_outside(&[(Quantity::G, g), (Quantity::Rate, rate)])
+        }
+        Entry::Fixed { g, .. } => first_outside(&[(Quantity::G, g)]),
+        Entry::Delivery {
+            sequence,
+            kind,
+            block,
+            mwh,
+            ..
+        } => first_outside(&[
+            (Quantity::Sequence, sequence),
+            (Quantity::Type, kind),
+            (Quantity::Block, block),
+            (Quantity::Mwh, mwh),
+        ]),
+        Entry::Direct { basis, percent, .. } => of_direct(basis, percent),
+    }
 }

@@ -1,9 +1,8 @@
 // What programs read and write: frames on an input, each a line `deck N` or `deck N NAME`, or `spreadsheet` for `deck`, and then N bytes; answers on an
 // output, each with whether it could be written; and on descriptor 3 how the run ended, for the program that started this one.
-// The input stands in a lent window, of which the bytes from `from` to `have` are not used yet; nothing else of it is kept.
 #![tactic(auto)]
 
-ghost use Rattle.std.specs.Prelude.{◌≡◌, ◌≤◌, ◌<◌, ◌++◌, ◌∷◌, [], length, take, OnOk};
+ghost use Rattle.std.specs.Prelude.{◌≡◌, ◌≤◌, ◌<◌, ◌+◌, ◌++◌, ◌∷◌, [], length, take, OnOk, IfOk, IfSome};
 ghost use Rattle.std.specs.Fmt.{decimal};
 ghost use Rattle.std.specs.Io.KnownBytes.{Appends};
 
@@ -13,71 +12,90 @@ use std::io::{Error, ErrorKind, Read, Write};
 use std::process::ExitCode;
 use std::rt::Files;
 
-// How a run ended: all written; a deck or file refused or a frame broken; a read that failed; a write that failed; an input longer than the program
-// takes; answers into a pipe that nobody reads any more.
-#[derive(Clone, Copy)]
+// How a run ended that wrote all: each deck or file has its report, file or lines; or one was refused, or a frame is broken.
+#[derive(Clone, Copy, PartialEq, Eq, PartialOrd, Ord)]
 pub enum Ending {
     Written,
     Refused,
+}
+
+// What ended a run before that: a read that failed; a write that failed; an input longer than the program takes; answers into a pipe that nobody reads
+// any more.
+#[derive(Clone, Copy)]
+pub enum Failure {
     Unread,
     Unwritten,
     TooLong,
     Unheard,
 }
 
-// How a run ends by a write that failed.
-impl From<Error> for Ending {
-    fn from(e: Error) -> Ending {
+// The failure that is a write's error.
+impl From<Error> for Failure {
+    fn from(e: Error) -> Failure {
         match e.kind() {
-            ErrorKind::BrokenPipe => Ending::Unheard,
-            _ => Ending::Unwritten,
+            ErrorKind::BrokenPipe => Failure::Unheard,
+            _ => Failure::Unwritten,
         }
     }
 }
 
-// An ending as it is told.
-fn told(ending: Ending) -> &'static str {
-    match ending {
-        Ending::Written => "0\n",
-        Ending::Refused => "1\n",
-        Ending::Unread => "2 read\n",
-        Ending::Unwritten => "2 write\n",
-        Ending::TooLong => "2 long\n",
-        Ending::Unheard => "",
+// How a run ended, as it is told. Where nobody reads the answers, it is not told, as by a program that such a pipe killed.
+fn told(ended: Result<Ending, Failure>) -> Option<&'static str> {
+    match ended {
+        Ok(Ending::Written) => Some("0\n"),
+        Ok(Ending::Refused) => Some("1\n"),
+        Err(Failure::Unread) => Some("2 read\n"),
+        Err(Failure::Unwritten) => Some("2 write\n"),
+        Err(Failure::TooLong) => Some("2 long\n"),
+        Err(Failure::Unheard) => None,
     }
 }
 
 // A descriptor that this program was started with, opened anew by its name among the process's own, to add to what is there. None where it is closed
 // or lent for reading alone, which its link's permissions tell.
 pub fn lent<R: Files>(rt: &R, name: &str) -> Option<R::File> {
-    let Ok(link) = fs::symlink_metadata(rt, name) else {
-        return None;
-    };
+    let link = fs::symlink_metadata(rt, name).ok()?;
     if link.permissions().readonly() {
         return None;
     }
     OpenOptions::new().append(true).open(rt, name).ok()
 }
 
-// The ending told on descriptor 3. Where that is closed, nobody asked; where nobody reads the answers, it is not told, as by a program that such a pipe
-// killed.
-pub fn tell<R: Files>(rt: &R, ending: Ending) {
-    let line = told(ending);
-    if line.len() == 0 {
-        return;
-    }
-    let Some(mut asker) = lent(rt, "/proc/self/fd/3") else {
+// How a run ended, told on descriptor 3. Where that is closed, nobody asked.
+fn tell<R: Files>(rt: &R, ended: Result<Ending, Failure>) {
+    let Some(line) = told(ended) else {
         return;
     };
-    let _ = asker.write_all(line.as_bytes());
+    if let Some(mut asker) = lent(rt, "/proc/self/fd/3") {
+        let _ = asker.write_all(line.as_bytes());
+    }
 }
 
 // The exit status: 0, but where nobody reads the answers that of a program that such a pipe killed, as shells have it.
-pub fn status(ending: Ending) -> ExitCode {
-    match ending {
-        Ending::Unheard => ExitCode::from(141),
+fn status(ended: Result<Ending, Failure>) -> ExitCode {
+    match ended {
+        Err(Failure::Unheard) => ExitCode::from(141),
         _ => ExitCode::SUCCESS,
     }
+}
+
+// What a program does last: it tells how it ended, and gives its exit status.
+pub fn end<R: Files>(rt: &R, ended: Result<Ending, Failure>) -> ExitCode {
+    tell(rt, ended);
+    status(ended)
+}
+
+// How a run ends that puts one answer to all that it reads, in a lent buffer.
+pub fn answer<I: Read, F: FnOnce(&[u8]) -> Result<Ending, Failure>>(
+    input: &mut I,
+    buffer: &mut [u8],
+    put: F,
+) -> Result<Ending, Failure>
+    requires { F.IsAlwaysCallable put }
+{
+    let mut window = Window::new(buffer);
+    window.fill(input)?;
+    put(window.unused())
 }
 
 // Room for an input: more than a deck may have. Zeros, so many that the checker must not count them: a caller knows their number by the contract.
@@ -87,355 +105,253 @@ pub fn large_buffer() -> [u8; 65536]
     [0; 65536]
 }
 
-// How many bytes the window has after a read, and whether the read failed.
-#[derive(Clone, Copy)]
-pub struct Got {
-    pub have: usize,
-    pub failed: bool,
+// Lent memory for an input, whose bytes from `from` to `have` are read and not used yet. Nothing else of the input is kept.
+#[derive(Drop)]
+pub struct Window<'a> {
+    bytes: &'a mut [u8],
+    from: usize,
+    have: usize,
+    ghost in_order: { from ≤ have },
+    ghost in_window: { have ≤ length bytes.now },
 }
 
-// One read of the input to after the first `have` bytes of the window: what is there, and no more at the input's end.
-fn more<I: Read>(input: &mut I, window: &mut [u8], have: usize) -> Got
-    requires { have ≤ length window.old }
-    ensures { (have ≤ result.have) × (result.have ≤ length window.new) × (length window.new ≡ length window.old) }
-{
-    match input.read(&mut window[have..]) {
-        Ok(n) => Got {
-            have: have + n,
-            failed: false,
-        },
-        Err(_) => Got {
-            have: have,
-            failed: true,
-        },
-    }
-}
-
-// The window filled from the input, or as far as the input goes.
-pub fn fill<I: Read>(input: &mut I, window: &mut [u8]) -> Got
-    ensures { (result.have ≤ length window.new) × (length window.new ≡ length window.old) }
-{
-    let mut have: usize = 0;
-    while have < window.len() {
-        let g = more(input, window, have);
-        if g.failed {
-            return g;
+impl<'a> Window<'a> {
+    pub fn new(bytes: &'a mut [u8]) -> Window<'a> {
+        Window {
+            bytes,
+            from: 0,
+            have: 0,
         }
-        if g.have == have {
-            return g;
-        }
-        have = g.have;
     }
-    Got {
-        have: have,
-        failed: false,
+
+    // The bytes that are not used yet.
+    pub fn unused(&self) -> &[u8]
+        ensures { self.now.from + length result.now ≡ self.now.have }
+    {
+        &self.bytes[self.from..self.have]
     }
-}
 
-// The bytes from `from` to `have` moved to the front.
-fn to_front(window: &mut [u8], from: usize, have: usize)
-    requires { (from ≤ have) × (have ≤ length window.old) }
-    ensures { length window.new ≡ length window.old }
-{
-    let mut i: usize = from;
-    while i < have {
-        window[i - from] = window[i];
-        i += 1;
+    // One read of the input to after what is there: how many bytes came, 0 at the input's end.
+    fn more<I: Read>(&mut self, input: &mut I) -> Result<usize, Error>
+        ensures came { IfOk result (λ n. self.new.have ≡ self.old.have + n) }
+        ensures kept { (self.new.from ≡ self.old.from) × (length self.new.bytes.now ≡ length self.old.bytes.now) }
+    {
+        let n = input.read(&mut self.bytes[self.have..])?;
+        self.have += n;
+        Ok(n)
     }
-}
 
-fn is_digit(b: u8) -> bool {
-    if b < b'0' {
-        return false;
+    // What is not used yet, moved to the front.
+    fn to_front(&mut self)
+        ensures moved { (self.new.from ≡ 0) × (self.old.from + self.new.have ≡ self.old.have) }
+        ensures kept { length self.new.bytes.now ≡ length self.old.bytes.now }
+    {
+        self.bytes.copy_within(self.from..self.have, 0);
+        self.have -= self.from;
+        self.from = 0;
     }
-    b <= b'9'
-}
 
-fn digit(b: u8) -> u64
-    ensures { result < 256 }
-{
-    (b as u64) % 16
-}
-
-// Whether a zero stands before the digit at i.
-fn leads(at: usize, i: usize, size: u64) -> bool {
-    if i <= at {
-        return false;
-    }
-    size == 0
-}
-
-// A frame's head, its first line, as far as it is there: `whole` up to LF, with its number, the place after that, from which on the head's rest
-// stands, LF or a space, a name and LF, and the place after LF; or `broken`, so that no more bytes make a head of it.
-#[derive(Clone, Copy)]
-pub struct Head {
-    pub whole: bool,
-    pub broken: bool,
-    pub size: u64,
-    pub rest: usize,
-    pub start: usize,
-}
-
-// A head that is not whole.
-fn unfinished(broken: bool) -> Head
-    ensures { (result.rest ≡ 0) × (result.start ≡ 0) }
-{
-    Head {
-        whole: false,
-        broken: broken,
-        size: 0,
-        rest: 0,
-        start: 0,
-    }
-}
-
-fn finished(size: u64, rest: usize, start: usize) -> Head
-    ensures { (result.rest ≡ rest) × (result.start ≡ start) }
-{
-    Head {
-        whole: true,
-        broken: false,
-        size: size,
-        rest: rest,
-        start: start,
-    }
-}
-
-// The most bytes of a name.
-const NAME: usize = 200;
-
-// The head whose number ends before `rest`.
-fn head_rest(s: &[u8], rest: usize, size: u64) -> Head
-    requires { rest < length s.now }
-    ensures { (result.rest ≤ result.start) × (result.start ≤ length s.now) }
-{
-    if s[rest] == b'\n' {
-        return finished(size, rest, rest + 1);
-    }
-    if s[rest] != b' ' {
-        return unfinished(true);
-    }
-    let mut i = rest + 1;
-    while i < s.len() {
-        if s[i] == b'\n' {
-            return finished(size, rest, i + 1);
-        }
-        if NAME < i - rest {
-            return unfinished(true);
-        }
-        i += 1;
-    }
-    unfinished(false)
-}
-
-// The head whose number, of at most 18 digits, starts at a place.
-fn head_number(s: &[u8], at: usize) -> Head
-    ensures { (result.rest ≤ result.start) × (result.start ≤ length s.now) }
-{
-    let mut size: u64 = 0;
-    let mut i = at;
-    while i < s.len() {
-        let b = s[i];
-        if !is_digit(b) {
-            if i == at {
-                return unfinished(true);
+    // The window filled from the input, or as far as the input goes.
+    pub fn fill<I: Read>(&mut self, input: &mut I) -> Result<(), Failure> {
+        // no `for`: a read gives as many bytes as there are, here and below
+        while self.have < self.bytes.len() {
+            if self.more(input).map_err(|_| Failure::Unread)? == 0 {
+                break;
             }
-            return head_rest(s, i, size);
         }
-        if 100000000000000000 <= size {
-            return unfinished(true);
-        }
-        if leads(at, i, size) {
-            return unfinished(true);
-        }
-        size = size * 10 + digit(b);
-        i += 1;
+        Ok(())
     }
-    unfinished(false)
+
+    // The head of the frame that comes next, as soon as that frame is whole or the head tells that it is too long for a deck; none at the input's end.
+    fn head<I: Read>(&mut self, input: &mut I) -> Result<Option<Head>, NoFrame>
+        ensures { IfOk result (λ o. IfSome o (λ h. (self.new.from + h.start ≤ self.new.have) × (h.size ≤ 8192 → (self.new.from + h.start) + h.size ≤ self.new.have))) }
+    {
+        loop {
+            if let Some(head) = head_of(self.unused())? {
+                if MOST < head.size || head.size <= (self.have - self.from - head.start) as u64 {
+                    return Ok(Some(head));
+                }
+            }
+            self.to_front();
+            if self.more(input).map_err(|_| NoFrame::Unread)? == 0 {
+                if self.have == 0 {
+                    return Ok(None);
+                }
+                return Err(NoFrame::Broken);
+            }
+        }
+    }
+
+    // A frame that is too long for a deck, read to its end: its head comes to the window's front, and the rest of the window takes its bytes.
+    fn pass_over<I: Read>(&mut self, input: &mut I, head: Head) -> Result<(), NoFrame>
+        requires { self.old.from + head.start ≤ self.old.have }
+        ensures { OnOk result (head.start ≤ self.new.have) }
+    {
+        self.to_front();
+        let mut left = head.size;
+        while ((self.have - head.start) as u64) < left {
+            left -= (self.have - head.start) as u64;
+            self.have = head.start;
+            if self.more(input).map_err(|_| NoFrame::Unread)? == 0 {
+                return Err(NoFrame::Broken);
+            }
+        }
+        self.from = head.start + left as usize;
+        Ok(())
+    }
+
+    // The next frame, read as far as it must be and no further; none at the input's end.
+    pub fn next<I: Read>(&mut self, input: &mut I) -> Result<Option<Frame<'_>>, NoFrame> {
+        let Some(head) = self.head(input)? else {
+            return Ok(None);
+        };
+        let at = if MOST < head.size {
+            self.pass_over(input, head)?;
+            0
+        } else {
+            let at = self.from;
+            self.from += head.start + head.size as usize;
+            at
+        };
+        Ok(Some(framed(&self.bytes[at..], head)))
+    }
 }
 
-// The head whose word is this one.
-fn head_after(s: &[u8], word: &[u8]) -> Head
-    ensures { (result.rest ≤ result.start) × (result.start ≤ length s.now) }
+// The frame at the front of these bytes.
+fn framed(s: &[u8], head: Head) -> Frame<'_>
+    requires head { head.start ≤ length s.now }
+    requires deck { head.size ≤ 8192 → head.start + head.size ≤ length s.now }
 {
-    let mut i: usize = 0;
-    while i < word.len() {
-        if s.len() <= i {
-            return unfinished(false);
+    let asked = if MOST < head.size {
+        Asked::Nothing
+    } else {
+        let deck = &s[head.start..head.start + head.size as usize];
+        if asks_spreadsheet(s) {
+            Asked::Spreadsheet(deck)
+        } else {
+            Asked::Report(deck)
         }
-        if s[i] != word[i] {
-            return unfinished(true);
-        }
-        i += 1;
+    };
+    Frame {
+        rest: &s[head.rest..head.start],
+        asked,
     }
-    head_number(s, i)
-}
-
-// Whether a head asks for a spreadsheet, if it is one: its first byte tells.
-fn asks_spreadsheet(s: &[u8]) -> bool {
-    if s.len() == 0 {
-        return false;
-    }
-    s[0] == b's'
-}
-
-// The head that a frame starts with.
-fn head_of(s: &[u8]) -> Head
-    ensures { (result.rest ≤ result.start) × (result.start ≤ length s.now) }
-{
-    if asks_spreadsheet(s) {
-        return head_after(s, b"spreadsheet ");
-    }
-    head_after(s, b"deck ")
-}
-
-// What comes next on the input: a frame that is whole, with what is asked of its deck; one of more bytes than a deck may have, passed over; the
-// input's end; a frame that is not of its form or is cut off; a read that fails.
-#[derive(Clone, Copy)]
-pub enum Coming {
-    Report,
-    Spreadsheet,
-    Over,
-    End,
-    Broken,
-    Unread,
-}
-
-// What comes next, and where in the window: the rest of the frame's head, LF included, from `rest` to `end`; the frame's bytes from `first` to `upto`;
-// what is not used yet from `upto` to `have`.
-#[derive(Clone, Copy)]
-pub struct Frame {
-    pub coming: Coming,
-    pub rest: usize,
-    pub end: usize,
-    pub first: usize,
-    pub upto: usize,
-    pub have: usize,
-}
-
-// What is asked by a frame that is whole.
-fn asked(head: &[u8]) -> Coming {
-    if asks_spreadsheet(head) {
-        return Coming::Spreadsheet;
-    }
-    Coming::Report
 }
 
 // The most bytes a deck may have.
 const MOST: u64 = 8192;
 
-fn none(coming: Coming) -> Frame
-    ensures { (result.rest ≡ 0) × (result.end ≡ 0) × (result.first ≡ 0) × (result.upto ≡ 0) × (result.have ≡ 0) }
-{
-    Frame {
-        coming: coming,
-        rest: 0,
-        end: 0,
-        first: 0,
-        upto: 0,
-        have: 0,
-    }
+// The most bytes of a name.
+const NAME: usize = 200;
+
+// Why no frame comes, though the input has not ended before one: a frame that is not of its form or is cut off; a read that fails.
+#[derive(Clone, Copy)]
+pub enum NoFrame {
+    Broken,
+    Unread,
 }
 
-// A frame of more bytes than a deck may have, whose head stands at the window's front up to `start`: it is read to its end in the rest of the window.
-fn pass_over<I: Read>(
-    input: &mut I,
-    window: &mut [u8],
-    have: usize,
+// A frame: the rest of its head after the number, LF or a space, a name and LF; and what is asked.
+#[derive(Clone, Copy)]
+pub struct Frame<'a> {
+    pub rest: &'a [u8],
+    pub asked: Asked<'a>,
+}
+
+// What is asked, of which deck; nothing of a frame of more bytes than a deck may have, which is passed over.
+#[derive(Clone, Copy)]
+pub enum Asked<'a> {
+    Report(&'a [u8]),
+    Spreadsheet(&'a [u8]),
+    Nothing,
+}
+
+// A frame's head, its first line up to LF: its number; the place after that, from which on the head's rest stands; and the place after LF.
+#[derive(Clone, Copy)]
+struct Head {
     size: u64,
     rest: usize,
     start: usize,
-) -> Frame
-    requires { (rest ≤ start) × (start ≤ have) × (have ≤ length window.old) }
-    ensures { (result.rest ≤ result.end) × (result.end ≤ result.have) × (result.first ≤ result.upto) × (result.upto ≤ result.have) × (result.have ≤ length window.new) × (length window.new ≡ length window.old) }
-{
-    let mut left = size;
-    let mut upto = have;
-    while ((upto - start) as u64) < left {
-        left -= (upto - start) as u64;
-        let g = more(input, window, start);
-        if g.failed {
-            return none(Coming::Unread);
-        }
-        if g.have == start {
-            return none(Coming::Broken);
-        }
-        upto = g.have;
-    }
-    let after = start + (left as usize);
-    Frame {
-        coming: Coming::Over,
-        rest: rest,
-        end: start,
-        first: after,
-        upto: after,
-        have: upto,
-    }
+    ghost in_order: { rest ≤ start },
 }
 
-// The next frame, read as far as it must be and no further.
-pub fn next<I: Read>(input: &mut I, window: &mut [u8], from: usize, have: usize) -> Frame
-    requires { (from ≤ have) × (have ≤ length window.old) }
-    ensures { (result.rest ≤ result.end) × (result.end ≤ result.have) × (result.first ≤ result.upto) × (result.upto ≤ result.have) × (result.have ≤ length window.new) × (length window.new ≡ length window.old) }
-{
-    let mut a = from;
-    let mut b = have;
-    loop {
-        let h = head_of(&window[a..b]);
-        if h.broken {
-            return none(Coming::Broken);
-        }
-        if h.whole {
-            let first = a + h.start;
-            if MOST < h.size {
-                to_front(window, a, b);
-                return pass_over(input, window, b - a, h.size, h.rest, h.start);
-            }
-            if h.size <= (b - first) as u64 {
-                let coming = asked(&window[a..first]);
-                let rest = a + h.rest;
-                let upto = first + (h.size as usize);
-                return Frame {
-                    coming: coming,
-                    rest: rest,
-                    end: first,
-                    first: first,
-                    upto: upto,
-                    have: b,
-                };
-            }
-        }
-        to_front(window, a, b);
-        let g = more(input, window, b - a);
-        if g.failed {
-            return none(Coming::Unread);
-        }
-        if g.have == b - a {
-            return at_end(a, b);
-        }
-        a = 0;
-        b = g.have;
-    }
+// Whether a head asks for a spreadsheet, if it is one: its first byte tells.
+fn asks_spreadsheet(s: &[u8]) -> bool {
+    s.starts_with(b"s")
 }
 
-// Where no more comes: the input's end, unless a frame has begun.
-fn at_end(a: usize, b: usize) -> Frame
-    ensures { (result.rest ≡ 0) × (result.end ≡ 0) × (result.first ≡ 0) × (result.upto ≡ 0) × (result.have ≡ 0) }
+// The head that a frame starts with; none where more bytes may make a head of what is there.
+fn head_of(s: &[u8]) -> Result<Option<Head>, NoFrame>
+    ensures { IfOk result (λ o. IfSome o (λ h. h.start ≤ length s.now)) }
 {
-    if a == b {
-        return none(Coming::End);
+    let word: &[u8] = if asks_spreadsheet(s) {
+        b"spreadsheet "
+    } else {
+        b"deck "
+    };
+    if !s.starts_with(word) {
+        return if word.starts_with(s) {
+            Ok(None)
+        } else {
+            Err(NoFrame::Broken)
+        };
     }
-    none(Coming::Broken)
+    let Some((size, rest)) = head_number(s, word.len())? else {
+        return Ok(None);
+    };
+    let Some(start) = head_end(s, rest)? else {
+        return Ok(None);
+    };
+    Ok(Some(Head { size, rest, start }))
+}
+
+// The number, of at most 18 digits, that starts at a place, and the place after it, where another byte stands.
+fn head_number(s: &[u8], at: usize) -> Result<Option<(u64, usize)>, NoFrame>
+    ensures { IfOk result (λ o. IfSome o (λ n. n.1 < length s.now)) }
+{
+    let mut size: u64 = 0;
+    for i in at..s.len() {
+        let b = s[i];
+        if !b.is_ascii_digit() {
+            return if at < i {
+                Ok(Some((size, i)))
+            } else {
+                Err(NoFrame::Broken)
+            };
+        }
+        if 100000000000000000 <= size || (at < i && size == 0) {
+            return Err(NoFrame::Broken);
+        }
+        size = size * 10 + u64::from(b - b'0');
+    }
+    Ok(None)
+}
+
+// The place after a head whose number ends before `rest`.
+fn head_end(s: &[u8], rest: usize) -> Result<Option<usize>, NoFrame>
+    requires { rest < length s.now }
+    ensures { IfOk result (λ o. IfSome o (λ start. (rest ≤ start) × (start ≤ length s.now))) }
+{
+    if s[rest] == b'\n' {
+        return Ok(Some(rest + 1));
+    }
+    if s[rest] != b' ' {
+        return Err(NoFrame::Broken);
+    }
+    let name = &s[rest + 1..];
+    match name.iter().take(NAME + 1).position(|b| *b == b'\n') {
+        Some(n) => Ok(Some(rest + 1 + n + 1)),
+        None if NAME < name.len() => Err(NoFrame::Broken),
+        None => Ok(None),
+    }
 }
 
 // The first n bytes of a text, or how the run ends where they were not written.
-pub fn put_first<W: Write>(out: &mut W, text: &[u8], n: usize) -> Result<(), Ending>
+pub fn put_first<W: Write>(out: &mut W, text: &[u8], n: usize) -> Result<(), Failure>
     ensures { OnOk result (Appends (W.contents out.old) (W.contents out.new) (take n text.now)) }
 {
-    if text.len() < n {
-        return Err(Ending::Unwritten);
-    }
-    out.write_all(&text[0..n])?;
+    let first = text.get(..n).ok_or(Failure::Unwritten)?;
+    out.write_all(first)?;
     Ok(())
 }
 
@@ -446,7 +362,7 @@ pub fn put_answer<W: Write>(
     rest: &[u8],
     text: &[u8],
     n: usize,
-) -> Result<(), Ending>
+) -> Result<(), Failure>
     ensures { OnOk result (Appends (W.contents out.old) (W.contents out.new) ((word.now ++ (decimal n ++ rest.now)) ++ take n text.now)) }
 {
     put_number(out, word, n as u64, rest)?;
@@ -454,7 +370,7 @@ pub fn put_answer<W: Write>(
 }
 
 // A word and a number, and what follows it.
-pub fn put_number<W: Write>(out: &mut W, word: &[u8], n: u64, after: &[u8]) -> Result<(), Ending>
+pub fn put_number<W: Write>(out: &mut W, word: &[u8], n: u64, after: &[u8]) -> Result<(), Failure>
     ensures { OnOk result (Appends (W.contents out.old) (W.contents out.new) (word.now ++ (decimal n ++ after.now))) }
 {
     out.write_all(word)?;
@@ -464,7 +380,7 @@ pub fn put_number<W: Write>(out: &mut W, word: &[u8], n: u64, after: &[u8]) -> R
 }
 
 // A line of a word and a number.
-pub fn put_line<W: Write>(out: &mut W, word: &[u8], n: u64) -> Result<(), Ending>
+pub fn put_line<W: Write>(out: &mut W, word: &[u8], n: u64) -> Result<(), Failure>
     ensures { OnOk result (Appends (W.contents out.old) (W.contents out.new) (word.now ++ (decimal n ++ 10 ∷ []))) }
 {
     put_number(out, word, n, b"\n")
@@ -472,8 +388,5 @@ pub fn put_line<W: Write>(out: &mut W, word: &[u8], n: u64) -> Result<(), Ending
 
 // Whether a report is that of a refused deck: the one line `refused`, where any other starts with `hour`.
 pub fn tells_refusal(report: &[u8]) -> bool {
-    if report.len() == 0 {
-        return false;
-    }
-    report[0] == b'r'
+    report.starts_with(b"r")
 }

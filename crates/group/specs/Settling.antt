@@ -1,10 +1,9 @@
--- A remainder's outcome as a struct, the ways that it tries in their order, and the outcome at each of them.
-use Rattle.std.specs.Prelude.{Bool, true, false, List, ◌≢◌, ◌≡◌, refl, ℕ, zero, suc, ◌+◌, ◌-◌, ◌≤◌, ◌<◌, ltb, length}
+-- A remainder's answer and the states that it leaves, the ways that it tries in their order, and the outcome at each of them.
+use Rattle.std.specs.Prelude.{Result, Ok, Err, Bool, true, false, List, ◌≢◌, ◌≡◌, refl, ℕ, zero, suc, ◌+◌, ◌-◌, ◌≤◌, ◌<◌, ltb, length}
 use Rattle.std.proofs.Common.{sym, ap, ◌∙◌, add-one, arith}
 use borrow.Author.Tests.{le-leb, lt-leb, ltb-true, ltb-false}
 use Rattle.curve.specs.declared.Rung.{Rung}
 use Rattle.curve.specs.declared.Rung.TheVariants.{Normal, Oil, Emergency}
-use Rattle.group.specs.declared.Settled.{Settled}
 use Rattle.ladder.specs.Ways.{way_of, up_of, by_price, Long}
 use Rattle.ladder.specs.declared.Way.{Way}
 use Rattle.ladder.specs.declared.Way.TheVariants.{Down, Up}
@@ -15,8 +14,6 @@ use Rattle.rules.specs.declared.InternalSequence.{InternalSequence}
 use Rattle.rules.specs.declared.Refusal.{Refusal}
 use Rattle.rules.specs.declared.Refusal.TheVariants.{NoRoom, NoHeadroom}
 use Rattle.rules.specs.declared.Running.{Running}
-use Rattle.rules.specs.declared.Verdict.{Verdict}
-use Rattle.rules.specs.declared.Verdict.TheVariants.{Accepted}
 use Rattle.rules.specs.Answers.{verdict_of}
 use Rattle.ladder.specs.Ready.{AllReady}
 
@@ -25,8 +22,10 @@ abbrev pub states_of : List Running → Outcome (List Running) → List Running
 states_of ss (accepted us) = us
 states_of ss (refused x) = ss
 
-abbrev pub settled : List Running → Outcome (List Running) → Settled
-settled ss o = record { verdict = verdict_of o; states = states_of ss o }
+-- the answer and the states are those of an outcome
+pub record Settled (ss : List Running) (o : Outcome (List Running)) (r : Result (Unit {0}) Refusal) (us : List Running) : Type 0 where
+  pub verdict : r ≡ verdict_of o
+  pub states : us ≡ states_of ss o
 
 -- by how much two numbers differ
 abbrev pub apart : ℕ → ℕ → ℕ
@@ -71,14 +70,11 @@ way_priced false (suc (suc i)) way e = rw e
 way_priced true i way e = rw e
 
 module _ (ss : List Running) {o : Outcome (List Running)} where
-  pub settled_done : {us ws : List Running} → us ≡ ws → o ≡ accepted ws → settled ss (accepted us) ≡ settled ss o
-  settled_done b e = rw e (ap (λ (xs : List Running). settled ss (accepted xs)) b)
+  pub settled_done : {us ws : List Running} → us ≡ ws → o ≡ accepted ws → Settled ss o (Ok tt) us
+  settled_done b e = record { verdict = ap verdict_of (sym e); states = b ∙ ap (states_of ss) (sym e) }
 
-  pub settled_end : {ws : List Running} (e : Settled) → e.verdict ≡ Accepted → e.states ≡ ws → o ≡ accepted ws → e ≡ settled ss o
-  settled_end e v s q = rw q (ap (λ (x : Verdict). record { verdict = x; states = e.states }) v ∙ ap (λ (xs : List Running). settled ss (accepted xs)) s)
-
-  pub settled_refused : {x : Refusal} → o ≡ refused x → settled ss (refused x) ≡ settled ss o
-  settled_refused e = ap (settled ss) (sym e)
+  pub settled_refused : {x : Refusal} → o ≡ refused x → Settled ss o (Err x) ss
+  settled_refused e = record { verdict = ap verdict_of (sym e); states = ap (states_of ss) (sym e) }
 
 module _ (number : InternalSequence) (n : ℕ) (ss : List Running) (r : ℕ) where
   pub unload_normal : r ≤ all (room normal) ss n → unload number n ss r ≡ accepted (plain (unloading normal) n ss r)

@@ -17,10 +17,8 @@ fn sum_of(cap: &[u64; LANES], n: usize) -> u64
     ensures { result ≡ sum_to (at cap.now) n }
 {
     let mut sum: u64 = 0;
-    let mut i = 0;
-    while i < n {
+    for i in 0..n {
         sum += cap[i];
-        i += 1;
     }
     sum
 }
@@ -88,7 +86,7 @@ pub fn renew(
 
 // All lines.
 pub fn line_up(
-    states: [Running; 32],
+    states: &[Running; 32],
     n: usize,
     step: &mut [u64; LANES],
     down: &mut [u64; LANES],
@@ -96,16 +94,13 @@ pub fn line_up(
     above: &mut [u64; LANES],
     head: &mut [u64; LANES],
 )
-    requires all_ready { AllReady states n }
+    requires all_ready { AllReady states.now n }
     requires long { (length step.old ≡ lanes) × (length down.old ≡ lanes) × (length room.old ≡ lanes) × (length above.old ≡ lanes) × (length head.old ≡ lanes) }
-    ensures { FirstLines states step.new down.new room.new above.new head.new n }
+    ensures { FirstLines states.now step.new down.new room.new above.new head.new n }
 {
-    let mut i = 0;
-    while i < n {
+    for i in 0..n {
         let s = states[i];
-        let p = s.plant;
-        step[i] = ladder::shift::step_of(p);
+        step[i] = ladder::shift::step_of(s.plant);
         renew(down, room, above, head, i, s);
-        i += 1;
     }
 }

@@ -5,23 +5,17 @@
 pub mod first;
 
 ghost use Rattle.std.specs.Prelude.{◌≡◌, ◌+◌, ◌≤◌};
+ghost use Rattle.rules.specs.Answers.{verdict_of};
 ghost use Rattle.rules.specs.Group.{basis, basic, directed, remainder};
 ghost use Rattle.merit.specs.LevelNeverBelowB.{Sound};
 ghost use Rattle.merit.specs.NumbersStaySmall.{Small};
 ghost use Rattle.ladder.specs.Ready.{AllReady};
-ghost use Rattle.group.specs.Settling.{settled, tries, way_at, Short, outcome};
+ghost use Rattle.group.specs.Settling.{states_of, tries, way_at, Short, outcome};
 
 use curve::Rung;
 use cutoff::LANES;
 use ladder::Way;
-use rules::{Basis, Direct, InternalSequence, Plant, Refusal, Running, Verdict};
-
-// What a remainder comes to, and the states after it; where it is refused, as they were.
-#[derive(Clone, Copy)]
-pub struct Settled {
-    pub verdict: Verdict,
-    pub states: [Running; 32],
-}
+use rules::{Basis, Direct, InternalSequence, Plant, Refusal, Running};
 
 fn basis_of(x: Basis, p: Plant) -> u32
     ensures { result ≡ basis x p }
@@ -92,81 +86,62 @@ fn settle_last(
     number: InternalSequence,
     up: bool,
     n: usize,
-    states: [Running; 32],
     total: u64,
-) -> Settled
-    requires all_ready { AllReady states n }
-    requires short { Short up n states total (tries up) }
-    ensures { result ≡ settled states (outcome up number n states total) }
+    states: &mut [Running; 32],
+) -> Result<(), Refusal>
+    requires all_ready { AllReady states.old n }
+    requires short { Short up n states.old total (tries up) }
+    ensures verdict { result ≡ verdict_of (outcome up number n states.old total) }
+    ensures states { states.new ≡ states_of states.old (outcome up number n states.old total) }
 {
     if up {
-        return Settled {
-            verdict: Verdict::Refused(Refusal::NoHeadroom(number)),
-            states: states,
-        };
+        return Err(Refusal::NoHeadroom(number));
     }
     if ladder::rooms(Way::Down(Rung::Last), states, n) < total {
-        return Settled {
-            verdict: Verdict::Refused(Refusal::NoRoom(number)),
-            states: states,
-        };
+        return Err(Refusal::NoRoom(number));
     }
     let lowered = ladder::rooms(Way::Down(Rung::Emergency), states, n);
-    Settled {
-        verdict: Verdict::Accepted,
-        states: ladder::below_emergency(states, n, total - lowered),
-    }
+    ladder::below_emergency(states, n, total - lowered);
+    Ok(())
 }
 
-// The group's remainder, its total less what its D lines took: by the first way with room. The states are large, so their owner goes through them itself.
+// The group's remainder, its total less what its D lines took: by the first way with room. Where it is refused the states stay.
 pub fn settle(
     number: InternalSequence,
     n: usize,
     total: u64,
     took: u64,
-    states: [Running; 32],
     by_price: bool,
-) -> Settled
-    requires { AllReady states n }
-    ensures { result ≡ settled states (remainder number n total took states) }
+    states: &mut [Running; 32],
+) -> Result<(), Refusal>
+    requires { AllReady states.old n }
+    ensures verdict { result ≡ verdict_of (remainder number n total took states.old) }
+    ensures states { states.new ≡ states_of states.old (remainder number n total took states.old) }
 {
     let up = total < took;
     let rest = numbers::distance(total, took);
-    let ways = tries_of(up);
     let mut one: [u64; LANES] = [0; LANES];
     let mut step: [u64; LANES] = [0; LANES];
     let mut cap: [u64; LANES] = [0; LANES];
-    let mut end = Settled {
-        verdict: Verdict::Accepted,
-        states: states,
-    };
-    let mut tried = 0;
-    while tried < ways {
+    for tried in 0..tries_of(up) {
         let way = way_at(up, tried);
         let mut sum: u64 = 0;
-        let mut i = 0;
-        while i < n {
-            let s = end.states[i];
-            let p = s.plant;
-            step[i] = ladder::shift::step_of(p);
+        for i in 0..n {
+            let s = states[i];
+            step[i] = ladder::shift::step_of(s.plant);
             sum += ladder::set_line(way, &mut one, &mut cap, i, s);
-            i += 1;
         }
         if rest <= sum {
             let mut taken: [u64; LANES] = [0; LANES];
             ladder::shift::take(by_price, up, &one, &step, &cap, n, rest, &mut taken);
-            let mut k = 0;
-            while k < n {
+            for k in 0..n {
                 let t = taken[k];
                 if 0 < t {
-                    let s = end.states[k];
-                    end.states[k] = ladder::shift::shift_one(up, s, t);
+                    states[k] = ladder::shift::shift_one(up, states[k], t);
                 }
-                k += 1;
             }
-            return end;
+            return Ok(());
         }
-        tried += 1;
     }
-    settle_last(number, up, n, end.states, rest)
+    settle_last(number, up, n, rest, states)
 }

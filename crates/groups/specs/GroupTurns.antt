@@ -1,9 +1,8 @@
 -- One group's turn: what its code may rely on, and where the run stands after it.
-use Rattle.std.specs.Prelude.{Bool, true, false, List, [], ◌∷◌, map, ◌≡◌, refl, ℕ, suc, ◌+◌, ◌≤◌, ◌<◌, length, set, replicate}
+use Rattle.std.specs.Prelude.{Result, Ok, Err, Option, Some, None, true, List, [], ◌∷◌, map, ◌≡◌, ℕ, suc, ◌+◌, ◌≤◌, ◌<◌, length, set, replicate}
 use Rattle.std.proofs.Common.{sym, ap, ◌∙◌, arith, ltb-true, lt-ltb}
 use Rattle.group.specs.FirstWay.{FirstLines}
-use Rattle.group.specs.Settling.{settled}
-use Rattle.group.specs.declared.Settled.{Settled}
+use Rattle.group.specs.Settling.{states_of}
 use Rattle.laws.specs.Answers.{verdict_refused}
 use Rattle.balance.specs.EveryGroupIsDone.{every_group_is_done, every_number_is_low}
 use Rattle.balance.specs.KeysOfAnHour.{hour_turns, every_group_has_its_turn}
@@ -20,34 +19,27 @@ use Rattle.groups.specs.RowKept.{RowKept, ready_stands, row_none}
 use Rattle.moves.specs.ToldIsTaken.{SourceRuns}
 use Rattle.merit.specs.RemainderMoves.{shift_moved, remainder_moves}
 use Rattle.roundtrip.specs.GivenHour.{valid_given}
+use Rattle.rules.specs.Answers.{verdict_of}
 use Rattle.rules.specs.Group.{opened, remainder}
 use Rattle.rules.specs.Hour.{keys, key_at, member, scheduled, counted, took_all, turns}
 use Rattle.rules.specs.Refusals.{Outcome, accepted, refused}
-use Rattle.rules.specs.Words.{when◌then◌else◌}
 use Rattle.rules.specs.Writing.{valid}
 use Rattle.rules.specs.declared.Hour.{Hour}
 use Rattle.rules.specs.declared.Key.{Key}
 use Rattle.rules.specs.declared.Refusal.{Refusal}
 use Rattle.rules.specs.declared.Running.{Running}
-use Rattle.rules.specs.declared.Verdict.TheVariants.{Accepted, Refused}
 use Rattle.sequence.specs.NextKey.{Next, Coming, coming_none, First, coming_next, coming_all}
 use Rattle.sequence.specs.SameGroups.{counted_same, same_turns}
-use Rattle.sequence.specs.declared.NextGroup.{NextGroup}
 use Rattle.ladder.specs.Ready.{AllReady}
 
 -- A bound on what is left: how many numbers are not above the next group's.
-abbrev pub past : NextGroup → ℕ
-past next = when next.there then suc next.key.number.0 else 0
+abbrev pub past : Option Key → ℕ
+past None = 0
+past (Some x) = suc x.number.0
 
-pub past_there : (next : NextGroup) → next.there ≡ true → past next ≡ suc next.key.number.0
-past_there next t = rw t
-
-pub past_most : (ks : List Key) (n : ℕ) (x : Key) (next : NextGroup) → Next ks n x next → past next ≤ x.number.0
-past_most ks n x next f = go next.there refl
-  where
-    go : (t : Bool) → next.there ≡ t → (when t then suc next.key.number.0 else 0) ≤ x.number.0
-    go true e = omega (arith, ltb-true next.key.number.0 x.number.0 (f.after e))
-    go false e = omega arith
+pub past_most : (ks : List Key) (n : ℕ) (x : Key) (next : Option Key) → Next ks n x next → past next ≤ x.number.0
+past_most ks n x None f = omega arith
+past_most ks n x (Some y) f = omega (arith, ltb-true y.number.0 x.number.0 f.after)
 
 -- the deliveries' keys in a table
 pub record KeysOf (h : Hour) (ks : List Key) : Type 0 where
@@ -58,16 +50,10 @@ pub record Blank (ls xs : List ℕ) : Type 0 where
   pub led : ls ≡ replicate 32 0
   pub kept : xs ≡ replicate 1024 0
 
-refused_not_accepted : {A : Type 0} {y : Refusal} → Refused y ≡ Accepted → A
-refused_not_accepted e = let z : ◌≡◌ {A = ℕ} 0 1 = cc in absurd (omega arith)
-
--- a remainder's verdict, and its outcome
-pub accepted_outcome : (ts : List Running) (o : Outcome (List Running)) (r : Settled) → r ≡ settled ts o → r.verdict ≡ Accepted → o ≡ accepted r.states
-accepted_outcome ts (accepted us) r e v = ap (λ (x : Settled). accepted x.states) (sym e)
-accepted_outcome ts (refused y) r e v = refused_not_accepted (sym (ap (λ (x : Settled). x.verdict) e) ∙ v)
-
-refused_outcome : (ts : List Running) (o : Outcome (List Running)) (r : Settled) (y : Refusal) → r ≡ settled ts o → r.verdict ≡ Refused y → o ≡ refused y
-refused_outcome ts o r y e v = verdict_refused o y (sym (ap (λ (x : Settled). x.verdict) e) ∙ v)
+-- a remainder that is answered Ok left these states
+pub accepted_outcome : (ts us : List Running) (o : Outcome (List Running)) → Ok tt ≡ verdict_of o → us ≡ states_of ts o → o ≡ accepted us
+accepted_outcome ts us (accepted ws) v s = ap accepted (sym s)
+accepted_outcome ts us (refused y) v s = cc
 
 module _ (h : Hour) (ks : List Key) where
   -- what a group's turn relies on: x is the next of the turns that are left
@@ -78,9 +64,9 @@ module _ (h : Hour) (ks : List Key) where
     pub rest : Coming ks h.ndeliveries x xs
 
   -- what the run answers: all groups are done, or the refusal that ends it
-  pub record Turned (r : Settled) (led kept : List ℕ) : Type 0 where
-    pub done : r.verdict ≡ Accepted → Reached h ks [] r.states led kept
-    pub ended : (y : Refusal) → r.verdict ≡ Refused y → whole h ks ≡ refused y
+  pub record Turned (r : Result (Unit {0}) Refusal) (ss : List Running) (led kept : List ℕ) : Type 0 where
+    pub done : r ≡ Ok tt → Reached h ks [] ss led kept
+    pub ended : (y : Refusal) → r ≡ Err y → whole h ks ≡ refused y
 
   -- its D lines left ts and took so much, and it has so many MWh
   pub record Worked (x : Key) (ss ts : List Running) (total took : ℕ) : Type 0 where
@@ -148,26 +134,26 @@ module _ (h : Hour) (ks : List Key) where
             (kept_turn h ks x f.xs lead f.reached.progress.cells led kept ss f.reached.table sources_few turn_deliveries.few l (directed_to h ks x ss) us kept' d (rw w.lines at turn_runs) total w.mwh
             (first_once x f.xs f.reached.turns.ordered))
 
-      pub turn_refused : (r : Settled) (y : Refusal) (led' kept' : List ℕ) → r ≡ settled ts remains → r.verdict ≡ Refused y → Turned r led' kept'
-      turn_refused r y led' kept' s v = record {
-        done = λ q. refused_not_accepted (sym v ∙ q);
-        ended = λ z q. reached_refused h ks x f.xs ss led kept f.reached z (left ∙ refused_outcome ts _ r z s q);
+      pub turn_refused : (y : Refusal) (ss' : List Running) (led' kept' : List ℕ) → Err y ≡ verdict_of remains → Turned (Err y) ss' led' kept'
+      turn_refused y ss' led' kept' v = record {
+        done = λ q. cc;
+        ended = λ z q. reached_refused h ks x f.xs ss led kept f.reached z (left ∙ verdict_refused remains z (sym v ∙ q));
       }
 
   -- Between turns: the next group is the first of the turns that are left; where there is none, none is left.
-  pub record Between (next : NextGroup) (ss : List Running) (led kept : List ℕ) : Type 0 where
+  pub record Between (next : Option Key) (ss : List Running) (led kept : List ℕ) : Type 0 where
     pub xs : List Key
     pub reached : Reached h ks xs ss led kept
-    pub none : next.there ≡ false → xs ≡ []
-    pub first : next.there ≡ true → First ks h.ndeliveries next.key xs
+    pub none : next ≡ None → xs ≡ []
+    pub first : (x : Key) → next ≡ Some x → First ks h.ndeliveries x xs
 
-  pub between_next : (x : Key) (xs : List Key) (next : NextGroup) (ss : List Running) (led kept : List ℕ) → Reached h ks xs ss led kept → Coming ks h.ndeliveries x xs → Next ks h.ndeliveries x next →
+  pub between_next : (x : Key) (xs : List Key) (next : Option Key) (ss : List Running) (led kept : List ℕ) → Reached h ks xs ss led kept → Coming ks h.ndeliveries x xs → Next ks h.ndeliveries x next →
       Between next ss led kept
   between_next x xs next ss led kept r c f = record {
     xs = xs;
     reached = r;
-    none = coming_none ks h.ndeliveries x xs next c f;
-    first = coming_next ks h.ndeliveries x xs next c f;
+    none = λ e. coming_none ks h.ndeliveries x xs c (rw e at f);
+    first = λ y e. coming_next ks h.ndeliveries x xs y c (rw e at f);
   }
 
   -- before the first turn
@@ -186,18 +172,18 @@ module _ (h : Hour) (ks : List Key) where
             let g = ap (λ (z : Key). z.number.0) f.is in
             omega arith
 
-    pub between_start : (next : NextGroup) (ss : List Running) (led kept : List ℕ) → ss ≡ map (λ s. opened s.plant) h.sources → Blank led kept →
+    pub between_start : (next : Option Key) (ss : List Running) (led kept : List ℕ) → ss ≡ map (λ s. opened s.plant) h.sources → led ≡ replicate 32 0 → kept ≡ replicate 1024 0 →
         Next ks h.ndeliveries (key_of 1000) next → Between next ss led kept
-    between_start next ss led kept e b f =
-        rw (b.led, b.kept)
+    between_start next ss led kept e l k0 f =
+        rw (l, k0)
         (between_next (key_of 1000) (turns (keys h)) next ss _ _
         (reached_start h ks ss v e all_turns_left.turns (λ j l. rw (k.same j) (every_group_is_done h v j l)))
         all_turns_left f)
 
-  pub between_fits : (next : NextGroup) (ss : List Running) (led kept : List ℕ) → valid h ≡ true → next.there ≡ true → Between next ss led kept → TurnFits next.key ss led kept
-  between_fits next ss led kept v t b =
-      let f = b.first t in
+  pub between_fits : (next : Option Key) (ss : List Running) (led kept : List ℕ) → valid h ≡ true → (x : Key) → next ≡ Some x → Between next ss led kept → TurnFits x ss led kept
+  between_fits next ss led kept v x t b =
+      let f = b.first x t in
       record { valid = v; xs = f.ys; reached = rw f.is at b.reached; rest = f.rest }
 
-  pub all_turned : (next : NextGroup) (ss : List Running) (led kept : List ℕ) → next.there ≡ false → Between next ss led kept → Turned (record { verdict = Accepted; states = ss }) led kept
-  all_turned next ss led kept t b = record { done = λ q. rw (b.none t) at b.reached; ended = λ y q. refused_not_accepted (sym q) }
+  pub all_turned : (next : Option Key) (ss : List Running) (led kept : List ℕ) → next ≡ None → Between next ss led kept → Turned (Ok tt) ss led kept
+  all_turned next ss led kept t b = record { done = λ q. rw (b.none t) at b.reached; ended = λ y q. cc }

@@ -14,9 +14,14 @@ use Rattle.rules.specs.Group.{no_running, opened}
 use Rattle.rules.specs.Record.{no_source}
 use Rattle.rules.specs.Writing.{valid}
 use Rattle.rules.specs.declared.Hour.{Hour}
+use Rattle.rules.specs.declared.Plant.{Plant}
 use Rattle.rules.specs.declared.Plant.TheVariants.{Fixed}
 use Rattle.rules.specs.declared.Running.{Running}
 use Rattle.rules.specs.declared.Source.{Source}
+
+-- of a blank entry
+abbrev pub no_plant : Plant
+no_plant = Fixed 0
 
 abbrev opened_as : Source → Running
 opened_as s = opened s.plant
@@ -25,11 +30,11 @@ opened_as s = opened s.plant
 pub record Opened (xs : List Source) (n : ℕ) (ss : List Running) : Type 0 where
   pub long : length ss ≡ 32
   pub at : (i : ℕ) → i < n → state_at ss i ≡ opened (get_or xs i no_source).plant
-  pub rest : (i : ℕ) → n ≤ i → i < 32 → state_at ss i ≡ opened (Fixed 0)
+  pub rest : (i : ℕ) → n ≤ i → i < 32 → state_at ss i ≡ opened no_plant
 
 module _ (xs : List Source) where
-  pub opened_none : (s : Running) → s ≡ opened (Fixed 0) → Opened xs 0 (replicate 32 s)
-  opened_none s e = record { long = length-replicate 32 s; at = λ i l. absurd (omega arith); rest = λ i l m. get_or-replicate 32 i s no_running m ∙ e }
+  pub opened_none : Opened xs 0 (replicate 32 (opened no_plant))
+  opened_none = record { long = length-replicate 32 (opened no_plant); at = λ i l. absurd (omega arith); rest = λ i l m. get_or-replicate 32 i (opened no_plant) no_running m }
 
   pub opened_more : (ss : List Running) (n : ℕ) (s : Running) → n < 32 → Opened xs n ss → s ≡ opened (get_or xs n no_source).plant → Opened xs (n + 1) (set ss n s)
   opened_more ss n s l o e = record {

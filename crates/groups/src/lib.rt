@@ -2,16 +2,16 @@
 // The contracts cite specs/: GroupTurns for where a run stands, RowKept and MovesOfGroups for what the table keeps.
 #![tactic(auto)]
 
-ghost use Rattle.std.specs.Prelude.{true, ◌≡◌, ◌<◌};
+ghost use Rattle.std.specs.Prelude.{true, ◌≡◌, ◌<◌, replicate};
 ghost use Rattle.rules.specs.Group.{opened};
 ghost use Rattle.rules.specs.Writing.{valid};
 ghost use Rattle.members.specs.Members.{MwhsOf};
 ghost use Rattle.ladder.specs.Ready.{AllReady};
 ghost use Rattle.groups.specs.RowKept.{Carried};
+ghost use Rattle.groups.specs.StatesOpened.{no_plant};
 ghost use Rattle.groups.specs.GroupTurns.{KeysOf, Blank, Turned};
 
-use group::Settled;
-use rules::{Hour, Key, Plant, Running, Verdict};
+use rules::{Hour, Key, Plant, Refusal, Running};
 
 // A source at the hour's start.
 pub fn open(p: Plant) -> Running
@@ -27,23 +27,26 @@ pub fn open(p: Plant) -> Running
     }
 }
 
-// Where each source went.
-fn keep_all(kept: &mut [u64; 1024], lead: usize, from: [Running; 32], to: [Running; 32], n: usize)
-    requires { (lead < 32) × AllReady from n × AllReady to n }
-    ensures { Carried lead n from kept.old to kept.new }
+// The states before any source is opened.
+pub fn blank_states() -> [Running; 32]
+    ensures { result ≡ replicate 32 (opened no_plant) }
 {
-    let mut i = 0;
-    while i < n {
-        let s = from[i];
-        let t = to[i];
-        moves::keep(kept, lead * 32 + i, s, t);
-        i += 1;
+    [open(Plant::Fixed { g: 0 }); 32]
+}
+
+// Where each source went.
+fn keep_all(kept: &mut [u64; 1024], lead: usize, from: &[Running; 32], to: &[Running; 32], n: usize)
+    requires { (lead < 32) × AllReady from.now n × AllReady to.now n }
+    ensures { Carried lead n from.now kept.old to.now kept.new }
+{
+    for i in 0..n {
+        moves::keep(kept, lead * 32 + i, from[i], to[i]);
     }
 }
 
 // Every key that a delivery has, in its turn: its D lines and its remainder; the first refusal ends the run.
 // Where each source went is kept in the row of the group's first member, and one more than the group's MWh beside that member.
-// The states are large, so their owner goes through them itself. The lines of a remainder's first way are kept, and renewed where a source changes.
+// The lines of a remainder's first way are kept, and renewed where a source changes. The states lent are those in the end, whatever they were.
 pub fn take_turns(
     h: Hour,
     keys: [Key; 32],
@@ -51,41 +54,36 @@ pub fn take_turns(
     mwhs: &[u64; 32],
     led: &mut [u64; 32],
     kept: &mut [u64; 1024],
-) -> Settled
+    states: &mut [Running; 32],
+) -> Result<(), Refusal>
     requires { (valid h ≡ true) × KeysOf h keys × MwhsOf h mwhs.now × Blank led.old kept.old }
-    ensures { Turned h keys result led.new kept.new }
+    ensures { Turned h keys result states.new led.new kept.new }
 {
     let n = h.nsources;
-    let blank = open(Plant::Fixed { g: 0 });
-    let mut states = [blank; 32];
+    *states = blank_states();
     let mut step: [u64; 32] = [0; 32];
     let mut down: [u64; 32] = [0; 32];
     let mut room: [u64; 32] = [0; 32];
     let mut above: [u64; 32] = [0; 32];
     let mut head: [u64; 32] = [0; 32];
-    let mut a = 0;
-    while a < n {
+    for a in 0..n {
         let source = h.sources[a];
         let p = source.plant;
         let s = open(p);
         states[a] = s;
         step[a] = ladder::shift::step_of(p);
         group::first::renew(&mut down, &mut room, &mut above, &mut head, a, s);
-        a += 1;
     }
-    let mut next = sequence::next_after(keys, h.ndeliveries, sequence::BEFORE_ALL);
-    while next.there {
-        let key = next.key;
-        let lead = members::lead_of(keys, h.ndeliveries, key);
+    let mut next = sequence::next_after(&keys, h.ndeliveries, sequence::BEFORE_ALL);
+    while let Some(key) = next {
+        let lead = members::lead_of(&keys, h.ndeliveries, key);
         let k = h.ndirects;
         let mut took: u64 = 0;
-        let mut q = 0;
-        while q < k {
+        for q in 0..k {
             let line = h.directs[q];
             let source = line.source;
             let delivery = line.delivery;
-            let its = keys[delivery];
-            if sequence::same_key(its, key) {
+            if keys[delivery] == key {
                 let s = states[source];
                 let t = group::allocate(s, line);
                 took += (t.d - s.d) as u64;
@@ -93,9 +91,8 @@ pub fn take_turns(
                 states[source] = t;
                 group::first::renew(&mut down, &mut room, &mut above, &mut head, source, t);
             }
-            q += 1;
         }
-        let total = members::total_of(mwhs, h.ndeliveries, keys, key);
+        let total = members::total_of(mwhs, h.ndeliveries, &keys, key);
         let up = total < took;
         let rest = numbers::distance(total, took);
         let mut taken: [u64; 32] = [0; 32];
@@ -103,8 +100,7 @@ pub fn take_turns(
             by_price, up, &step, &down, &room, &above, &head, n, rest, &mut taken,
         );
         if enough {
-            let mut i = 0;
-            while i < n {
+            for i in 0..n {
                 let m = taken[i];
                 if 0 < m {
                     let t = states[i];
@@ -113,26 +109,17 @@ pub fn take_turns(
                     states[i] = u;
                     group::first::renew(&mut down, &mut room, &mut above, &mut head, i, u);
                 }
-                i += 1;
             }
         } else {
-            let end = group::settle(key.number, n, total, took, states, by_price);
-            let verdict = end.verdict;
-            let Verdict::Accepted = verdict else {
-                return end;
-            };
-            let after = end.states;
-            keep_all(kept, lead, states, after, n);
-            states = after;
+            let before = *states;
+            group::settle(key.number, n, total, took, by_price, states)?;
+            keep_all(kept, lead, &before, states, n);
             group::first::line_up(
                 states, n, &mut step, &mut down, &mut room, &mut above, &mut head,
             );
         }
         led[lead] = total + 1;
-        next = sequence::next_after(keys, h.ndeliveries, key);
+        next = sequence::next_after(&keys, h.ndeliveries, key);
     }
-    Settled {
-        verdict: Verdict::Accepted,
-        states: states,
-    }
+    Ok(())
 }

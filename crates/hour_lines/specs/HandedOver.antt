@@ -1,4 +1,6 @@
 -- A text handed over into a lent buffer: it stands at the start where it fits, and else it is 14 and nothing changed.
+use Rattle.std.specs.Prelude.{Result, Ok, Err}
+use Rattle.rules.specs.declared.Refusal.{Refusal}
 use Rattle.std.specs.Prelude.{◌≡◌, List, [], ◌++◌, ℕ, ◌-◌, ◌≤◌, ◌<◌, length, take, drop}
 use Rattle.std.proofs.Common.{ap, ◌∙◌, arith, le-ltb, lt-ltb}
 use Rattle.std.proofs.Math.Seq.{take-append_seam}
@@ -6,8 +8,6 @@ use Rattle.rules.specs.Answers.{written_of}
 use Rattle.rules.specs.Refusals.{Outcome}
 use Rattle.rules.specs.Calls.{into, leaves}
 use Rattle.rules.specs.declared.Refusal.TheVariants.{Short}
-use Rattle.rules.specs.declared.Written.{Written}
-use Rattle.rules.specs.declared.Written.TheVariants.{Count, Refused as NotWritten}
 use Rattle.write_fields.specs.Inked.{Text, Room, Inked, inked_place, inked_first}
 
 -- What was written from 0 on.
@@ -30,13 +30,13 @@ module _ (f : Text) (w buf : List ℕ) (same : f [] ≡ w) (fits : length w ≤ 
 -- What a call answers and leaves.
 
 module _ (w out : List ℕ) where
-  pub into_short : length out < length w → (NotWritten Short ≡ written_of (into (length out) w)) × (out ≡ leaves (into (length out) w) out)
+  pub into_short : length out < length w → (Err Short ≡ written_of (into (length out) w)) × (out ≡ leaves (into (length out) w) out)
   into_short l = let f = lt-ltb (length out) (length w) l in (rw f, rw f)
 
   pub into_whole : (n : ℕ) (after : List ℕ) → length w ≤ length out → n ≡ length w → after ≡ w ++ drop (length w) out
-      → (Count n ≡ written_of (into (length out) w)) × (after ≡ leaves (into (length out) w) out)
+      → (Ok n ≡ written_of (into (length out) w)) × (after ≡ leaves (into (length out) w) out)
   into_whole n after l e d = let f = le-ltb (length out) (length w) l in (rw (f, e), rw f d)
 
 -- the same where two calls come to the same
-pub told_as : {x y : Outcome (List ℕ)} (out : List ℕ) → x ≡ y → {r : Written} {after : List ℕ} → (r ≡ written_of x) × (after ≡ leaves x out) → (r ≡ written_of y) × (after ≡ leaves y out)
+pub told_as : {x y : Outcome (List ℕ)} (out : List ℕ) → x ≡ y → {r : (Result ℕ Refusal)} {after : List ℕ} → (r ≡ written_of x) × (after ≡ leaves x out) → (r ≡ written_of y) × (after ≡ leaves y out)
 told_as out e t = (t.0 ∙ ap written_of e, t.1 ∙ ap (λ (o : Outcome (List ℕ)). leaves o out) e)

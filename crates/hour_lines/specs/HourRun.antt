@@ -1,4 +1,5 @@
 -- What a reconstruction answered of an hour, and left in the cells that it was lent.
+use Rattle.std.specs.Prelude.{Result, Ok, Err}
 use Rattle.std.proofs.Math.Path.{◌≡◌, refl, ap}
 use Rattle.std.specs.Prelude.{true, List, ◌++◌, ℕ, ◌≤◌, ℤ, length}
 use Rattle.std.proofs.Common.{arith, le-ltb}
@@ -13,8 +14,6 @@ use Rattle.rules.specs.Writing.{valid}
 use Rattle.rules.specs.declared.Hour.{Hour}
 use Rattle.rules.specs.declared.Key.{Key}
 use Rattle.rules.specs.declared.Refusal.{Refusal}
-use Rattle.rules.specs.declared.Written.{Written}
-use Rattle.rules.specs.declared.Written.TheVariants.{Count, Refused as NotWritten}
 use Rattle.sequence.specs.Placings.{placings, placings_same}
 use Rattle.hour_lines.specs.HourCells.{Answered}
 
@@ -31,24 +30,24 @@ unfolding calls.cells_for
 filled h out l = rw (le-ltb (length out) (cell_count h) l)
 
 module _ (h : Hour) where
-  pub run_refused : (r : Refusal) → NotWritten r ≡ written_of (answer h) → reconstructed h ≡ refused r
+  pub run_refused : (r : Refusal) → Err r ≡ written_of (answer h) → reconstructed h ≡ refused r
   unfolding hours.answer
   run_refused r e = go (reconstructed h) e
     where
-      go : (o : Outcome Progress) → NotWritten r ≡ written_of (and_then o λ p. accepted (cells_of h p)) → o ≡ refused r
+      go : (o : Outcome Progress) → Err r ≡ written_of (and_then o λ p. accepted (cells_of h p)) → o ≡ refused r
       go (accepted p) e = let z : ◌≡◌ {A = ℕ} 0 1 = cc in absurd (omega arith)
       go (refused q) e = let z : q ≡ r = cc in ap refused z
 
-  pub run_done : (k : ℕ) (out left : List ℤ) → Count k ≡ written_of (answer h) → left ≡ leaves (answer h) out → Run h left
+  pub run_done : (k : ℕ) (out left : List ℤ) → Ok k ≡ written_of (answer h) → left ≡ leaves (answer h) out → Run h left
   unfolding hours.answer
   run_done k out left e f = go (reconstructed h) refl e f
     where
-      go : (o : Outcome Progress) → reconstructed h ≡ o → Count k ≡ written_of (and_then o λ p. accepted (cells_of h p)) → left ≡ leaves (and_then o λ p. accepted (cells_of h p)) out → Run h left
+      go : (o : Outcome Progress) → reconstructed h ≡ o → Ok k ≡ written_of (and_then o λ p. accepted (cells_of h p)) → left ≡ leaves (and_then o λ p. accepted (cells_of h p)) out → Run h left
       go (accepted p) oe e f = record { progress = p; run = oe; after = drop (length (cells_of h p)) out; is = f }
       go (refused q) oe e f = let z : ◌≡◌ {A = ℕ} 0 1 = cc in absurd (omega arith)
 
 -- what an hour's reconstruction answered, and left in the cells that it was lent
-pub record Ended (h : Hour) (end : Written) (cells : List ℤ) : Type 0 where
+pub record Ended (h : Hour) (end : (Result ℕ Refusal)) (cells : List ℤ) : Type 0 where
   pub before : List ℤ
   pub outcome : end ≡ written_of (answer h)
   pub left : cells ≡ leaves (answer h) before

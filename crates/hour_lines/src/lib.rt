@@ -14,7 +14,7 @@ ghost use Rattle.hour_lines.specs.LineAmounts.{SmallFirst, pair_from, open_from}
 
 use moves::PAIR_CELLS;
 use reconstruct::OPEN_CELLS;
-use rules::{Hour, Key, Written};
+use rules::{Hour, Key, Refusal};
 
 // As many cells as an hour has at most, and as many as a small one may have.
 pub const MOST_CELLS: usize = 32 * (32 * PAIR_CELLS) + 32 * OPEN_CELLS;
@@ -22,7 +22,7 @@ pub const MOST_CELLS: usize = 32 * (32 * PAIR_CELLS) + 32 * OPEN_CELLS;
 pub const FEW_CELLS: usize = 512;
 
 // The cells of a valid hour, whose deliveries have these keys.
-pub fn fill_cells(h: Hour, keys: [Key; 32], cells: &mut [i64]) -> Written
+pub fn fill_cells(h: Hour, keys: [Key; 32], cells: &mut [i64]) -> Result<usize, Refusal>
     requires { (valid h ≡ true) × (keys ≡ placings h.deliveries h.ndeliveries) × (cell_count h ≤ length cells.old) }
     ensures outcome { result ≡ written_of (answer h) }
     ensures cells { cells.new ≡ leaves (answer h) cells.old }
@@ -64,10 +64,11 @@ pub fn pair_amounts_at(cells: &[i64], k: usize) -> [i64; PAIR_AMOUNTS]
     requires { SmallFirst cells.now (k + pair_width) }
     ensures { result ≡ pair_amounts (pair_from cells.now k) }
 {
-    let direct = cells[k];
-    let incremental = cells[k + 1];
-    let cost = both_costs(cells[k + 2], cells[k + 3]);
-    [direct, incremental, cost]
+    [
+        cells[k],
+        cells[k + 1],
+        both_costs(cells[k + 2], cells[k + 3]),
+    ]
 }
 
 // What an open line prints of the source's.
@@ -75,7 +76,5 @@ pub fn open_amounts_at(cells: &[i64], k: usize) -> [i64; OPEN_AMOUNTS]
     requires { SmallFirst cells.now (k + open_width) }
     ensures { result ≡ open_amounts (open_from cells.now k) }
 {
-    let mwh = cells[k];
-    let cost = cells[k + 1];
-    [mwh, cost]
+    [cells[k], cells[k + 1]]
 }

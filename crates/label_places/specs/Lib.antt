@@ -1,3 +1,4 @@
+pub mod Classes
 pub mod Stands
 pub mod Codes
 pub mod MentionsStandElsewhere

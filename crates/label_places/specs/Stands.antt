@@ -1,7 +1,7 @@
 -- A place that is a label's: where it starts and ends, and what the deck has there. The places that a deck's scan gives are such.
-use Rattle.std.specs.Prelude.{◌≡◌, ℕ, ◌+◌, ◌-◌, ◌≤◌, length, get_or, drop}
+use Rattle.std.specs.Prelude.{◌≡◌, ℕ, ◌+◌, ◌-◌, ◌≤◌, length, get_or, drop, Ok, Err}
 use Rattle.std.proofs.Math.Path.{refl}
-use Rattle.std.proofs.Common.{ap, ◌∙◌, arith, le-ltb, length-take, length-drop}
+use Rattle.std.proofs.Common.{ap, sym, ◌∙◌, arith, le-ltb, length-take, length-drop}
 use mathlib.Core.List.{List, []}
 use Rattle.std.proofs.Math.Decide.{dec_lt}
 use Rattle.rules.specs.Calls as calls
@@ -10,11 +10,16 @@ use Rattle.rules.specs.Places.{part_start, source_start, delivery_start, place_c
 use Rattle.rules.specs.Reading.{reading}
 use Rattle.rules.specs.Refusals.{Outcome, accepted, refused}
 use Rattle.rules.specs.declared.Hour.{Hour}
+use Rattle.rules.specs.declared.Refusal.{Refusal}
+use Rattle.laws.specs.Answers.{answer_refused}
 use Rattle.roundtrip.specs.DeckFits.{accepted_at_most}
 use Rattle.roundtrip.specs.GivenHour.{accepted_given}
 use Rattle.deck.specs.Answers.{nowhere, bytes_of, Placed, Scanned}
-use Rattle.deck.specs.declared.Place.{Place}
+use Rattle.read_fields.specs.declared.Place.{Place}
 use Rattle.deck.specs.declared.ScannedDeck.{ScannedDeck}
+use Rattle.label_places.specs.Classes.{part_of, start_of}
+use Rattle.label_places.specs.declared.Class.{Class}
+use Rattle.label_places.specs.declared.Class.TheVariants.{Source, Delivery}
 
 pub record Stands (s : List ℕ) (start : ℕ) (part : List ℕ) (p : Place) : Type 0 where
   pub begins : p.from ≡ start
@@ -64,34 +69,49 @@ part_short s part empty = go (reading s) refl
     go (refused r) e k = absurd (omega (arith, k, ap length (empty r)))
 
 module _ (s : List ℕ) (i : ℕ) where
-  pub source_stands_lem : (x : ScannedDeck) → Scanned s (reading s) x → Stands s (source_start s i) (source_part s i) (get_or x.sources i nowhere)
-  unfolding calls.source_part
-  source_stands_lem x e = placed_stands s _ _ x.sources e.sources (λ i. part_short s (λ o. source_part_of o i) (λ r. refl)) i
-
-  pub delivery_stands_lem : (x : ScannedDeck) → Scanned s (reading s) x → Stands s (delivery_start s i) (delivery_part s i) (get_or x.deliveries i nowhere)
-  unfolding calls.delivery_part
-  delivery_stands_lem x e = placed_stands s _ _ x.deliveries e.deliveries (λ i. part_short s (λ o. delivery_part_of o i) (λ r. refl)) i
-
-  -- no deck has a thirty-third entry
-  module _ (past : 32 ≤ i) where
-    source_past : source_part s i ≡ []
+  module _ (x : ScannedDeck) (e : Scanned s (reading s) (Ok x)) where
+    pub source_stands_lem : Stands s (source_start s i) (source_part s i) (get_or x.sources i nowhere)
     unfolding calls.source_part
-    source_past = go (reading s) refl
-      where
-        go : (o : Outcome Hour) → reading s ≡ o → source_part_of o i ≡ []
-        go (accepted h) e = rw (le-ltb i h.nsources (omega (arith, (accepted_given s h e).sources.few)))
-        go (refused r) e = refl
+    source_stands_lem = placed_stands s _ _ x.sources e.sources (λ i. part_short s (λ o. source_part_of o i) (λ r. refl)) i
 
-    delivery_past : delivery_part s i ≡ []
+    pub delivery_stands_lem : Stands s (delivery_start s i) (delivery_part s i) (get_or x.deliveries i nowhere)
     unfolding calls.delivery_part
-    delivery_past = go (reading s) refl
+    delivery_stands_lem = placed_stands s _ _ x.deliveries e.deliveries (λ i. part_short s (λ o. delivery_part_of o i) (λ r. refl)) i
+
+  -- where a label is not there
+  module _ (class : Class) where
+    empty_stands : part_of class s i ≡ [] → Stands s (start_of class s i) (part_of class s i) nowhere
+    empty_stands = go class
       where
-        go : (o : Outcome Hour) → reading s ≡ o → delivery_part_of o i ≡ []
-        go (accepted h) e = rw (le-ltb i h.ndeliveries (omega (arith, (accepted_given s h e).deliveries.few)))
-        go (refused r) e = refl
+        go : (c : Class) → part_of c s i ≡ [] → Stands s (start_of c s i) (part_of c s i) nowhere
+        go Source e = stands_none s _ (source_part s i) e
+        go Delivery e = stands_none s _ (delivery_part s i) e
 
-    pub no_source : Stands s (source_start s i) (source_part s i) nowhere
-    no_source = stands_none s _ (source_part s i) source_past
+    -- no deck has a thirty-third entry
+    pub past_stands : 32 ≤ i → Stands s (start_of class s i) (part_of class s i) nowhere
+    unfolding calls.source_part calls.delivery_part
+    past_stands past = empty_stands (go class)
+      where
+        sources : (o : Outcome Hour) → reading s ≡ o → source_part_of o i ≡ []
+        sources (accepted h) e = rw (le-ltb i h.nsources (omega (arith, (accepted_given s h e).sources.few)))
+        sources (refused r) e = refl
 
-    pub no_delivery_lem : Stands s (delivery_start s i) (delivery_part s i) nowhere
-    no_delivery_lem = stands_none s _ (delivery_part s i) delivery_past
+        deliveries : (o : Outcome Hour) → reading s ≡ o → delivery_part_of o i ≡ []
+        deliveries (accepted h) e = rw (le-ltb i h.ndeliveries (omega (arith, (accepted_given s h e).deliveries.few)))
+        deliveries (refused r) e = refl
+
+        go : (c : Class) → part_of c s i ≡ []
+        go Source = sources (reading s) refl
+        go Delivery = deliveries (reading s) refl
+
+    -- a refused deck has none
+    pub refused_stands : (r : Refusal) → Scanned s (reading s) (Err r) → Stands s (start_of class s i) (part_of class s i) nowhere
+    unfolding calls.source_part calls.delivery_part
+    refused_stands r e = empty_stands (go class)
+      where
+        is : reading s ≡ refused r
+        is = answer_refused (reading s) r (sym e.answer)
+
+        go : (c : Class) → part_of c s i ≡ []
+        go Source = rw is
+        go Delivery = rw is

@@ -62,34 +62,27 @@ pub fn set_line(
 }
 
 // By how many the first n together.
-pub fn rooms(way: Way, states: [Running; 32], n: usize) -> u64
-    requires { AllReady states n }
-    ensures { result ≡ all (way_of way).room states n }
+pub fn rooms(way: Way, states: &[Running; 32], n: usize) -> u64
+    requires { AllReady states.now n }
+    ensures { result ≡ all (way_of way).room states.now n }
 {
     let mut sum: u64 = 0;
-    let mut i = 0;
-    while i < n {
-        let s = states[i];
-        sum += room_by(way, s);
-        i += 1;
+    for i in 0..n {
+        sum += room_by(way, states[i]);
     }
     sum
 }
 
 // Each source at its emergency floor, where it is above it.
-fn to_emergency(states: [Running; 32]) -> [Running; 32]
-    requires { AllReady states 32 }
-    ensures { result ≡ to_emergency states }
+fn to_emergency(states: &mut [Running; 32])
+    requires { AllReady states.old 32 }
+    ensures { states.new ≡ to_emergency states.old }
 {
-    let mut after = states;
-    let mut i = 0;
-    while i < 32 {
-        let s = after[i];
+    for i in 0..32 {
+        let s = states[i];
         let room = room_by(Way::Down(Rung::Emergency), s);
-        after[i] = shift::shift_one(false, s, room);
-        i += 1;
+        states[i] = shift::shift_one(false, s, room);
     }
-    after
 }
 
 // By how many MWh the last step may lower a source: a unit alone.
@@ -120,48 +113,46 @@ fn goes_before(s: Running, found: bool, other: Running) -> bool
 }
 
 // The source with room whose average is highest, a tie to the earlier; n where none has room.
-fn dearest(states: [Running; 32], n: usize) -> usize
-    requires { AllReady states n }
-    ensures { Chosen states n result }
+fn dearest(states: &[Running; 32], n: usize) -> usize
+    requires { AllReady states.now n }
+    ensures { Chosen states.now n result }
 {
     let mut best = n;
     let mut other = states[0];
-    let mut i = 0;
-    while i < n {
+    for i in 0..n {
         let s = states[i];
         if goes_before(s, best < n, other) {
             best = i;
             other = s;
         }
-        i += 1;
     }
     best
 }
 
 // One source after another, each by all that it has or that is left.
-fn last_step(states: [Running; 32], n: usize, total: u64) -> [Running; 32]
-    requires all_ready { AllReady states n }
-    requires room { total ≤ all unit_room states n }
-    ensures { result ≡ plain last_step n states total }
+fn last_step(states: &mut [Running; 32], n: usize, total: u64)
+    requires all_ready { AllReady states.old n }
+    requires room { total ≤ all unit_room states.old n }
+    ensures { states.new ≡ plain last_step n states.old total }
 {
-    let mut after = states;
     let mut rest = total;
+    // no `for`: a turn takes as many MWh as the dearest source has
     while 0 < rest {
-        let i = dearest(after, n);
-        let s = after[i];
+        let i = dearest(states, n);
+        let s = states[i];
         let room = unit_room(s);
         let k = numbers::least(room, rest);
-        after[i] = shift::shift_one(false, s, k);
+        states[i] = shift::shift_one(false, s, k);
         rest -= k;
     }
-    after
 }
 
 // The last step from the emergency floors, with what these leave of the remainder.
-pub fn below_emergency(states: [Running; 32], n: usize, total: u64) -> [Running; 32]
-    requires all_ready { AllReady states n }
-    requires room { total + all (room emergency) states n ≤ all (room last) states n }
-    ensures { result ≡ plain last_step n (to_emergency states) total }
+pub fn below_emergency(states: &mut [Running; 32], n: usize, total: u64)
+    requires all_ready { AllReady states.old n }
+    requires room { total + all (room emergency) states.old n ≤ all (room last) states.old n }
+    ensures { states.new ≡ plain last_step n (to_emergency states.old) total }
 {
-    last_step(to_emergency(states), n, total)
+    to_emergency(states);
+    last_step(states, n, total);
 }

@@ -1,5 +1,5 @@
 -- Laws of the first that passes and of all that pass, up to a number.
-use Rattle.std.specs.Prelude.{◌≡◌, refl, Bool, true, false, ◌&&◌, ◌||◌, List, ℕ, zero, suc, ◌+◌, ◌<◌, ◌≤◌, length, get_or, set}
+use Rattle.std.specs.Prelude.{◌≡◌, refl, Bool, true, false, ◌&&◌, ◌||◌, List, ℕ, zero, suc, ◌+◌, ◌<◌, ◌≤◌, length, get_or, set, is_some}
 use Rattle.std.proofs.Common.{ap, sym, ◌∙◌, ⊎_elim, eq-or-lt_of_le, le_of_suc-le-suc, add-one, arith, get_or-set_same, get_or-set_other}
 use Rattle.std.proofs.Math.Option.{Option, none, some}
 use Rattle.rules.specs.Words as words
@@ -7,7 +7,6 @@ use Rattle.rules.specs.Words.{when◌then◌else◌, all_to, any_to, ◌otherwis
 use Rattle.laws.specs.Choices.{true_not_false}
 use Rattle.laws.specs.Lists.{find_to_none, find_to_passes}
 use Rattle.line_rules.specs.Spellings.{spot_of}
-use Rattle.line_rules.specs.Tried.{is_found}
 
 -- Truth values.
 
@@ -64,12 +63,12 @@ find_to_fails p zero h = refl
 find_to_fails p (suc n) h = rw (find_to_fails p n (λ i l. h i (omega arith)), h n (omega arith))
 
 -- one is found where any passes
-pub found_any : (p : ℕ → Bool) (n : ℕ) → any_to p n ≡ is_found (spot_of (find_to p n))
+pub found_any : (p : ℕ → Bool) (n : ℕ) → any_to p n ≡ is_some (spot_of (find_to p n))
 unfolding words.any_to words.find_to
 found_any p zero = refl
 found_any p (suc n) = go (find_to p n) (p n) (any_to p n) (found_any p n)
   where
-    go : (x : Option ℕ) (b a : Bool) → a ≡ is_found (spot_of x) → (a || b) ≡ is_found (spot_of (x otherwise (when b then some n else none)))
+    go : (x : Option ℕ) (b a : Bool) → a ≡ is_some (spot_of x) → (a || b) ≡ is_some (spot_of (x otherwise (when b then some n else none)))
     go none true a e = rw e
     go none false a e = rw e
     go (some i) b a e = rw e

@@ -1,5 +1,5 @@
 -- The tables that are kept beside a growing hour, and what they tell of it.
-use Rattle.std.specs.Prelude.{◌≡◌, refl, Bool, not, ◌&&◌, List, ℕ, suc, ◌+◌, ◌<◌, eqb, length, get_or, set, replicate}
+use Rattle.std.specs.Prelude.{◌≡◌, refl, Bool, not, ◌&&◌, List, ℕ, suc, ◌+◌, ◌<◌, eqb, length, get_or, set, replicate, is_some}
 use Rattle.std.proofs.Math.Path.{ap}
 use Rattle.std.proofs.Common.{sym, ◌∙◌, add-one, arith}
 use Rattle.std.proofs.Math.Option.{Option, none, some}
@@ -18,7 +18,7 @@ use Rattle.laws.specs.Choices.{true_not_false}
 use Rattle.laws.specs.Lists.{find_to_none}
 use Rattle.laws.specs.Sums.{below_suc}
 use Rattle.line_rules.specs.Spellings.{spelling_of, same_spelling, spot_of, spelling_at, spelling_to, spelling_found}
-use Rattle.line_rules.specs.Tried.{counts_of, Few, is_found, Tables, unit_high, code_leaves}
+use Rattle.line_rules.specs.Tried.{counts_of, Few, Tables, unit_high, code_leaves}
 use Rattle.line_rules.specs.Finds.{find_to_only, find_to_same, found_any, kept, find_to_both}
 use Rattle.line_rules.specs.SpellingTells.{Labelled, same_spelling_tells, same_spelling_self, spelling_tells}
 use Rattle.line_rules.specs.declared.Spelling.{Spelling}
@@ -103,8 +103,8 @@ module _ (label : ℕ → Label) (n : ℕ) (lo hi : List ℕ) (k : Spelled label
   pub spelled_found : find_to (λ i. same_label (label i) l) n ≡ spelling_to lo hi (spelling_of l) n
   spelled_found = find_to_same (λ i. same_label (label i) l) (λ i. same_spelling (spelling_at lo hi i) (spelling_of l)) n same_at
 
-  pub spelled_used : any_to (λ i. same_label (label i) l) n ≡ is_found (spelling_found lo hi n (spelling_of l))
-  spelled_used = found_any (λ i. same_label (label i) l) n ∙ ap (λ (x : Option ℕ). is_found (spot_of x)) spelled_found
+  pub spelled_used : any_to (λ i. same_label (label i) l) n ≡ is_some (spelling_found lo hi n (spelling_of l))
+  spelled_used = found_any (λ i. same_label (label i) l) n ∙ ap (λ (x : Option ℕ). is_some (spot_of x)) spelled_found
 
   -- and as no two are the same, so is the first of them that passes another test
   pub spelled_both : (u : ℕ → Bool) → find_to (λ i. u i && same_label (label i) l) n ≡ kept u (spelling_to lo hi (spelling_of l) n)

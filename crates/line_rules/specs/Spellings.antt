@@ -1,11 +1,9 @@
 -- Labels as spellings of two numbers, and the tables that hold them.
-use Rattle.std.specs.Prelude.{Bool, ◌&&◌, List, ℕ, zero, suc, ◌+◌, ◌*◌, eqb, get_or}
-use Rattle.std.proofs.Math.Option.{Option, none, some}
+use Rattle.std.specs.Prelude.{Bool, ◌&&◌, List, ℕ, zero, suc, ◌+◌, ◌*◌, eqb, get_or, Option, Some, None}
+use Rattle.std.proofs.Math.Option.{Option as Maybe, none, some}
 use Rattle.rules.specs.Words.{find_to}
 use Rattle.rules.specs.declared.Label.{Label}
 use Rattle.line_rules.specs.declared.Spelling.{Spelling}
-use Rattle.line_rules.specs.declared.Spot.{Spot}
-use Rattle.line_rules.specs.declared.Spot.TheVariants.{At, Nowhere}
 
 -- the number whose digits are f 0, .., f (n - 1), to the base 256
 unfoldable pub base256 : (ℕ → ℕ) → ℕ → ℕ
@@ -24,16 +22,16 @@ abbrev pub same_spelling : Spelling → Spelling → Bool
 same_spelling a b = eqb a.lo b.lo && eqb a.hi b.hi
 
 -- what a search answers
-abbrev pub spot_of : Option ℕ → Spot
-spot_of none = Nowhere
-spot_of (some i) = At i
+abbrev pub spot_of : Maybe ℕ → Option ℕ
+spot_of none = None
+spot_of (some i) = Some i
 
 -- the spelling at a place of two tables, and the first place of n where a spelling stands
 abbrev pub spelling_at : List ℕ → List ℕ → ℕ → Spelling
 spelling_at lo hi i = record { lo = get_or lo i 0; hi = get_or hi i 0 }
 
-abbrev pub spelling_to : List ℕ → List ℕ → Spelling → ℕ → Option ℕ
+abbrev pub spelling_to : List ℕ → List ℕ → Spelling → ℕ → Maybe ℕ
 spelling_to lo hi k n = find_to (λ i. same_spelling (spelling_at lo hi i) k) n
 
-abbrev pub spelling_found : List ℕ → List ℕ → ℕ → Spelling → Spot
+abbrev pub spelling_found : List ℕ → List ℕ → ℕ → Spelling → Option ℕ
 spelling_found lo hi n k = spot_of (spelling_to lo hi k n)

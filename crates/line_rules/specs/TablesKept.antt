@@ -2,9 +2,9 @@
 --     kept_started                               an hour without entries has tables of zeros
 --     kept_source, kept_delivery, kept_direct    one entry more
 --     entry_named, entry_unnamed                 what the answer to a D line tells
-use Rattle.std.specs.Prelude.{◌≡◌, refl, Bool, true, false, not, ◌&&◌, List, [], ℕ, ◌+◌, ◌<◌, ◌≤◌, leb, ltb, eqb, get_or, set, replicate}
+use Rattle.std.specs.Prelude.{◌≡◌, refl, Bool, true, false, not, ◌&&◌, List, [], ℕ, ◌+◌, ◌<◌, ◌≤◌, leb, ltb, eqb, get_or, set, replicate, is_some, Option, Some, None, Ok, Err}
 use Rattle.std.proofs.Common.{ap, sym, ◌∙◌, add-one, arith, length-set, get_or-set_same, get_or-set_other, leb-false, ltb-false, eqb-true, eq-eqb, ne_eqb}
-use Rattle.std.proofs.Math.Option.{Option, none, some}
+use Rattle.std.proofs.Math.Option.{Option as Maybe, none, some}
 use Rattle.std.proofs.lemmas.List.{get_or-replicate}
 use Rattle.std.proofs.lemmas.Bool.{not-false}
 use Rattle.rules.specs.Words as words
@@ -34,7 +34,7 @@ use Rattle.ranges.specs.Inside as tests
 use Rattle.ranges.specs.Inside.{plant_inside}
 use Rattle.line_rules.specs.Spellings.{spelling_of, spot_of, spelling_at, spelling_to}
 use Rattle.line_rules.specs.Tried as tried
-use Rattle.line_rules.specs.Tried.{entry_of, counts_of, next_line, is_found, label_tried, source_tried, delivery_tried, Tables, unit_high, basis_code, code_leaves, below_most, pair_found, on_pair, direct_tried}
+use Rattle.line_rules.specs.Tried.{entry_of, counts_of, next_line, label_tried, source_tried, delivery_tried, Tables, unit_high, basis_code, code_leaves, below_most, pair_found, on_pair, direct_tried}
 use Rattle.line_rules.specs.Finds.{truths_same, and_false, and_true, all_to_set}
 use Rattle.line_rules.specs.Pairs.{pair_within}
 use Rattle.line_rules.specs.SpellingTells.{Labelled}
@@ -42,18 +42,15 @@ use Rattle.line_rules.specs.Kept.{spelled_none, spelled_more, High, Kept}
 use Rattle.line_rules.specs.declared.Spelling.{Spelling}
 use Rattle.line_rules.specs.declared.Counts.{Counts}
 use Rattle.line_rules.specs.declared.DirectLine.{DirectLine}
-use Rattle.line_rules.specs.declared.Entry.TheVariants.{Named, Unnamed}
-use Rattle.line_rules.specs.declared.Pair.{Pair}
-use Rattle.line_rules.specs.declared.Pair.TheVariants.{Both, Missing}
 
 -- What the answer to a D line tells.
 
-pub entry_named : (o : Outcome Direct) (y : Direct) → entry_of o ≡ Named y → o ≡ accepted y
+pub entry_named : (o : Outcome Direct) (y : Direct) → entry_of o ≡ Ok y → o ≡ accepted y
 entry_named (accepted x) y e = let q : x ≡ y = cc in ap accepted q
-entry_named (refused r) y e = let z : ◌≡◌ {A = ℕ} 0 1 = cc in absurd (omega arith)
+entry_named (refused r) y e = absurd cc
 
-pub entry_unnamed : (o : Outcome Direct) (r : Refusal) → entry_of o ≡ Unnamed r → o ≡ refused r
-entry_unnamed (accepted x) r e = let z : ◌≡◌ {A = ℕ} 0 1 = cc in absurd (omega arith)
+pub entry_unnamed : (o : Outcome Direct) (r : Refusal) → entry_of o ≡ Err r → o ≡ refused r
+entry_unnamed (accepted x) r e = absurd cc
 entry_unnamed (refused s) r e = let q : s ≡ r = cc in ap refused q
 
 -- What a line that is let through has shown.
@@ -64,7 +61,7 @@ pub record Let (in_range : Bool) (n : ℕ) (spelling : Spelling) (lo hi : List �
   pub room : n < 32
   pub unused : spelling_to lo hi spelling n ≡ none
 
-not_found : (x : Option ℕ) → is_found (spot_of x) ≡ false → x ≡ none
+not_found : (x : Maybe ℕ) → is_some (spot_of x) ≡ false → x ≡ none
 not_found none e = refl
 not_found (some i) e = true_not_false e
 
@@ -73,7 +70,7 @@ unfolding tried.label_tried
 label_let line in_range n spelling lo hi e =
     let a = refuse_passed (not in_range) _ _ tt e in
     let b = refuse_passed (leb 32 n) _ _ tt a.1 in
-    let c = refuse_passed (is_found (spot_of (spelling_to lo hi spelling n))) _ _ tt b.1 in
+    let c = refuse_passed (is_some (spot_of (spelling_to lo hi spelling n))) _ _ tt b.1 in
     record { within = not-false in_range a.0; room = leb-false 32 n b.0; unused = not_found _ c.0 }
 
 pub source_let : (n : Counts) (in_range : Bool) (plant : Plant) (spelling : Spelling) (lo hi : List ℕ) → source_tried n in_range plant spelling lo hi ≡ accepted tt
@@ -102,15 +99,15 @@ pub record DirectLet (n : Counts) (in_range : Bool) (x : DirectLine) (t : Tables
   pub leaves : code_leaves (get_or t.based y.source 0) y.basis ≡ true
   pub total : get_or t.percents y.source 0 + y.percent ≤ 100
 
-record Found (o : Pair) (after : ℕ → ℕ → Outcome Direct) (y : Direct) : Type 0 where
+record Found (o : Option (ℕ × ℕ)) (after : ℕ → ℕ → Outcome Direct) (y : Direct) : Type 0 where
   i : ℕ
   j : ℕ
-  is : o ≡ Both i j
+  is : o ≡ Some (i, j)
   goes : after i j ≡ accepted y
 
-found_passed : (o : Pair) (r : Refusal) (after : ℕ → ℕ → Outcome Direct) (y : Direct) → on_pair o r after ≡ accepted y → Found o after y
-found_passed Missing r after y e = refused_not_accepted r y e
-found_passed (Both i j) r after y e = record { i = i; j = j; is = refl; goes = e }
+found_passed : (o : Option (ℕ × ℕ)) (r : Refusal) (after : ℕ → ℕ → Outcome Direct) (y : Direct) → on_pair o r after ≡ accepted y → Found o after y
+found_passed None r after y e = refused_not_accepted r y e
+found_passed (Some (i, j)) r after y e = record { i = i; j = j; is = refl; goes = e }
 
 pub direct_let : (n : Counts) (in_range : Bool) (x : DirectLine) (t : Tables) (y : Direct) → direct_tried n in_range x t ≡ accepted y → DirectLet n in_range x t y
 unfolding tried.direct_tried

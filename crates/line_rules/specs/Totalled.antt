@@ -1,7 +1,7 @@
 -- What 10 and 11 ask of an hour so far, kept as it grows, and what they come to at its end.
 --     totalled_none, totalled_source, totalled_delivery    no entry, and one more
 --     finished_by_lem                                           the verdict on the whole hour
-use Rattle.std.specs.Prelude.{◌≡◌, refl, Bool, true, false, not, ◌||◌, List, ℕ, zero, suc, ◌+◌, ◌*◌, ◌<◌, ◌≤◌, ltb, eqb, get_or}
+use Rattle.std.specs.Prelude.{Result, Ok, Err, is_some, ◌≡◌, refl, Bool, true, false, not, ◌||◌, List, ℕ, zero, suc, ◌+◌, ◌*◌, ◌<◌, ◌≤◌, ltb, eqb, get_or}
 use Rattle.std.proofs.Common.{ap, sym, ◌∙◌, add-one, arith, eqb-true}
 use Rattle.std.proofs.Math.Option.{Option, none, some}
 use Rattle.std.proofs.lemmas.Bool.{eqb-false}
@@ -16,14 +16,13 @@ use Rattle.rules.specs.declared.Plant.{Plant}
 use Rattle.rules.specs.declared.Source.{Source}
 use Rattle.rules.specs.declared.Delivery.{Delivery}
 use Rattle.rules.specs.declared.Hour.{Hour}
+use Rattle.rules.specs.declared.Refusal.{Refusal}
 use Rattle.rules.specs.declared.Refusal.TheVariants.{Overdrawn, Unplaced}
-use Rattle.rules.specs.declared.Verdict.{Verdict}
-use Rattle.rules.specs.declared.Verdict.TheVariants.{Accepted, Refused}
 use Rattle.laws.specs.Choices.{true_not_false, false_not_true}
 use Rattle.laws.specs.Sums.{sum_to_none, sum_to_more, sum_to_same}
 use Rattle.roundtrip.specs.FirstUnplaced.{placer}
 use Rattle.line_rules.specs.Spellings.{spot_of}
-use Rattle.line_rules.specs.Tried.{counts_of, is_found, above_one, generated_to, delivered_to}
+use Rattle.line_rules.specs.Tried.{counts_of, above_one, generated_to, delivered_to}
 use Rattle.line_rules.specs.Finds.{found_any}
 use Rattle.line_rules.specs.Answers.{finished_overdrawn, finished_none, finished_placed, finished_unplaced}
 use Rattle.line_rules.specs.declared.Counts.{Counts}
@@ -39,12 +38,12 @@ abbrev pub delivery_totalled : Totals → Delivery → Totals
 delivery_totalled t x = record { generated = t.generated; delivered = t.delivered + x.mwh; numbered = t.numbered || not (to_place x) }
 
 -- 10, then 11
-unfoldable pub finished_by : Counts → ℕ → Totals → Verdict
+unfoldable pub finished_by : Counts → ℕ → Totals → Result (Unit {0}) Refusal
 finished_by n losses t =
-    when ltb t.generated (losses + t.delivered) then Refused Overdrawn else
-    when eqb n.deliveries 0 then Accepted else
-    when t.numbered then Accepted else
-    Refused (Unplaced (n.sources + 2))
+    when ltb t.generated (losses + t.delivered) then Err Overdrawn else
+    when eqb n.deliveries 0 then Ok tt else
+    when t.numbered then Ok tt else
+    Err (Unplaced (n.sources + 2))
 
 -- whether one of the first n deliveries has a number of its own
 abbrev pub numbered_to : List Delivery → ℕ → Bool
@@ -104,11 +103,11 @@ module _ (ss : List Source) (n : ℕ) (ds : List Delivery) (m : ℕ) (t : Totals
 
 -- The end.
 
-found_some : (x : Option ℕ) → is_found (spot_of x) ≡ true → (i : ℕ) × (x ≡ some i)
+found_some : (x : Option ℕ) → is_some (spot_of x) ≡ true → (i : ℕ) × (x ≡ some i)
 found_some none e = false_not_true e
 found_some (some i) e = (i, refl)
 
-found_none : (x : Option ℕ) → is_found (spot_of x) ≡ false → x ≡ none
+found_none : (x : Option ℕ) → is_some (spot_of x) ≡ false → x ≡ none
 found_none none e = refl
 found_none (some i) e = true_not_false e
 
@@ -116,15 +115,15 @@ pub finished_by_lem : (h : Hour) (t : Totals) → Totalled h.sources h.nsources 
 unfolding finished_by
 finished_by_lem h t k = go (ltb (generated h) (h.losses + delivered h)) refl (eqb h.ndeliveries 0) refl t.numbered refl
   where
-    is_found_lem : is_found (spot_of (placer h)) ≡ t.numbered
-    is_found_lem = sym (k.numbered ∙ found_any (λ i. not (to_place (get_or h.deliveries i no_delivery))) h.ndeliveries)
+    found_numbered : is_some (spot_of (placer h)) ≡ t.numbered
+    found_numbered = sym (k.numbered ∙ found_any (λ i. not (to_place (get_or h.deliveries i no_delivery))) h.ndeliveries)
 
     go : (o : Bool) → ltb (generated h) (h.losses + delivered h) ≡ o → (z : Bool) → eqb h.ndeliveries 0 ≡ z → (b : Bool) → t.numbered ≡ b
         → finished_by (counts_of h) h.losses t ≡ verdict_of (finished h)
     go true oe z ze b be = rw (k.generated, k.delivered, oe) (finished_overdrawn h oe)
     go false oe true ze b be = rw (k.generated, k.delivered, oe, ze) (finished_none h oe (eqb-true h.ndeliveries 0 ze))
     go false oe false ze true be =
-        let j = found_some (placer h) (is_found_lem ∙ be) in
+        let j = found_some (placer h) (found_numbered ∙ be) in
         rw (k.generated, k.delivered, oe, ze, be) (finished_placed h j.0 oe j.1)
     go false oe false ze false be =
-        rw (k.generated, k.delivered, oe, ze, be) (finished_unplaced h oe (eqb-false h.ndeliveries 0 ze) (found_none (placer h) (is_found_lem ∙ be)))
+        rw (k.generated, k.delivered, oe, ze, be) (finished_unplaced h oe (eqb-false h.ndeliveries 0 ze) (found_none (placer h) (found_numbered ∙ be)))

@@ -1,5 +1,5 @@
 -- Document 01, "Numbers a call may give back", 2 to 9, tried on the counts of a growing hour and on the tables kept beside it.
-use Rattle.std.specs.Prelude.{Bool, true, false, not, ◌&&◌, ◌||◌, List, ℕ, ◌+◌, ◌≤◌, leb, ltb, eqb, get_or}
+use Rattle.std.specs.Prelude.{Bool, true, not, ◌&&◌, ◌||◌, List, ℕ, ◌+◌, ◌≤◌, leb, ltb, eqb, get_or, is_some, Option, Some, None, Result, Ok, Err}
 use Rattle.rules.specs.Words.{when◌then◌else◌, sum_to}
 use Rattle.rules.specs.Refusals.{Outcome, accepted, refused, refuse, and_then}
 use Rattle.rules.specs.Units.{generation, levelled}
@@ -18,18 +18,12 @@ use Rattle.rules.specs.declared.Refusal.TheVariants.{Form, Range, Full, Used, Le
 use Rattle.line_rules.specs.Spellings.{spelling_found}
 use Rattle.line_rules.specs.declared.Spelling.{Spelling}
 use Rattle.line_rules.specs.declared.Counts.{Counts}
-use Rattle.line_rules.specs.declared.Spot.{Spot}
-use Rattle.line_rules.specs.declared.Spot.TheVariants.{At, Nowhere}
-use Rattle.line_rules.specs.declared.Pair.{Pair}
-use Rattle.line_rules.specs.declared.Pair.TheVariants.{Both, Missing}
 use Rattle.line_rules.specs.declared.DirectLine.{DirectLine}
-use Rattle.line_rules.specs.declared.Entry.{Entry}
-use Rattle.line_rules.specs.declared.Entry.TheVariants.{Named, Unnamed}
 
 -- What the code answers to a D line.
-abbrev pub entry_of : Outcome Direct → Entry
-entry_of (accepted x) = Named x
-entry_of (refused r) = Unnamed r
+abbrev pub entry_of : Outcome Direct → Result Direct Refusal
+entry_of (accepted x) = Ok x
+entry_of (refused r) = Err r
 
 -- The counts of the hour so far.
 
@@ -48,16 +42,12 @@ next_line n = n.sources + n.deliveries + n.directs + 2
 
 -- Source and T lines.
 
-abbrev pub is_found : Spot → Bool
-is_found Nowhere = false
-is_found (At i) = true
-
 -- 3 to 5, of a line whose class has n entries
 unfoldable pub label_tried : ℕ → Bool → ℕ → Spelling → List ℕ → List ℕ → Outcome (Unit {0})
 label_tried line in_range n spelling lo hi =
     refuse (not in_range) (Range line)
     (refuse (leb 32 n) (Full line)
-    (refuse (is_found (spelling_found lo hi n spelling)) (Used line)
+    (refuse (is_some (spelling_found lo hi n spelling)) (Used line)
     (accepted tt)))
 
 unfoldable pub source_tried : Counts → Bool → Plant → Spelling → List ℕ → List ℕ → Outcome (Unit {0})
@@ -105,20 +95,20 @@ abbrev pub code_leaves : ℕ → Basis → Bool
 code_leaves code x = eqb code 0 || eqb code (basis_code x)
 
 -- 7
-abbrev pub on_spot : Spot → (ℕ → Pair) → Pair
-on_spot Nowhere after = Missing
-on_spot (At i) after = after i
+abbrev pub on_spot : Option ℕ → (ℕ → Option (ℕ × ℕ)) → Option (ℕ × ℕ)
+on_spot None after = None
+on_spot (Some i) after = after i
 
-unfoldable pub pair_found : Counts → DirectLine → List ℕ → List ℕ → List ℕ → List ℕ → List ℕ → Pair
+unfoldable pub pair_found : Counts → DirectLine → List ℕ → List ℕ → List ℕ → List ℕ → List ℕ → Option (ℕ × ℕ)
 pair_found n x slo shi tlo thi high =
     on_spot (spelling_found slo shi n.sources x.unit) λ i.
-    when eqb (get_or high i 0) 0 then Missing else
+    when eqb (get_or high i 0) 0 then None else
     on_spot (spelling_found tlo thi n.deliveries x.delivery) λ j.
-    Both i j
+    Some (i, j)
 
-abbrev pub on_pair : {A : Type 0} → Pair → Refusal → (ℕ → ℕ → Outcome A) → Outcome A
-on_pair Missing r after = refused r
-on_pair (Both i j) r after = after i j
+abbrev pub on_pair : {A : Type 0} → Option (ℕ × ℕ) → Refusal → (ℕ → ℕ → Outcome A) → Outcome A
+on_pair None r after = refused r
+on_pair (Some (i, j)) r after = after i j
 
 unfoldable pub direct_tried : Counts → Bool → DirectLine → Tables → Outcome Direct
 direct_tried n in_range x t =

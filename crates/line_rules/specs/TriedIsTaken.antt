@@ -1,10 +1,10 @@
 -- On the tables of an hour, the rules tried are the reader's rules on the hour.
 --     source_tried_lem, delivery_tried_lem, direct_tried_lem     the reader takes a line just where the tables let it through
-use Rattle.std.specs.Prelude.{◌≡◌, Bool, ◌&&◌, List, ℕ, ◌+◌, ◌<◌, leb, ltb, eqb, get_or}
+use Rattle.std.specs.Prelude.{◌≡◌, Bool, ◌&&◌, List, ℕ, ◌+◌, ◌<◌, leb, ltb, eqb, get_or, is_some, Option, Some, None}
 use Rattle.std.proofs.Math.Path.{refl, ap, sym}
 use Rattle.std.proofs.Common.{◌∙◌, arith}
 use Rattle.std.proofs.Math.Bool.{true, false, not}
-use Rattle.std.proofs.Math.Option.{Option, none, some}
+use Rattle.std.proofs.Math.Option.{Option as Maybe, none, some}
 use Rattle.rules.specs.Words.{when◌then◌else◌}
 use Rattle.rules.specs.Refusals.{Outcome, accepted, refused, refuse, and_then}
 use Rattle.rules.specs.Units.{is_unit, levelled}
@@ -25,14 +25,12 @@ use Rattle.laws.specs.Choices.{false_not_true}
 use Rattle.laws.specs.Lists.{find_to_passes}
 use Rattle.line_rules.specs.Spellings.{spelling_of, spot_of, spelling_to, spelling_found}
 use Rattle.line_rules.specs.Tried as tried
-use Rattle.line_rules.specs.Tried.{counts_of, is_found, label_tried, source_tried, delivery_tried, Tables, below_most, code_leaves, on_spot, on_pair, direct_tried}
+use Rattle.line_rules.specs.Tried.{counts_of, label_tried, source_tried, delivery_tried, Tables, below_most, code_leaves, on_spot, on_pair, direct_tried}
 use Rattle.line_rules.specs.Finds.{kept}
 use Rattle.line_rules.specs.SpellingTells.{Labelled}
 use Rattle.line_rules.specs.Kept.{spelled_found, spelled_used, spelled_both, High, Kept}
 use Rattle.line_rules.specs.declared.Spelling.{Spelling}
 use Rattle.line_rules.specs.declared.DirectLine.{DirectLine}
-use Rattle.line_rules.specs.declared.Pair.{Pair}
-use Rattle.line_rules.specs.declared.Pair.TheVariants.{Both, Missing}
 
 -- one rule past, on the hour and on its tables
 past : {A B : Type 0} (b c : Bool) (r : Refusal) (x : Outcome B) (y : Outcome A) (after : A → Outcome B) → b ≡ c → x ≡ and_then y after
@@ -45,7 +43,7 @@ then_then (accepted u) y after = refl
 then_then (refused r) y after = refl
 
 -- 3 to 5
-label_past : {B : Type 0} (line : ℕ) (in_range : Bool) (n : ℕ) (spelling : Spelling) (lo hi : List ℕ) (used : Bool) (x : Outcome B) → used ≡ is_found (spelling_found lo hi n spelling)
+label_past : {B : Type 0} (line : ℕ) (in_range : Bool) (n : ℕ) (spelling : Spelling) (lo hi : List ℕ) (used : Bool) (x : Outcome B) → used ≡ is_some (spelling_found lo hi n spelling)
     → refuse (not in_range) (Range line) (refuse (leb 32 n) (Full line) (refuse used (Used line) x)) ≡ and_then (label_tried line in_range n spelling lo hi) (λ u. x)
 unfolding tried.label_tried
 label_past line in_range n spelling lo hi used x e =
@@ -97,18 +95,18 @@ module _ (h : Hour) (t : Tables) (k : Kept h t) where
       (past _ _ _ _ _ _ (ap (λ (n : ℕ). ltb 100 (n + percent)) (k.percents i (omega arith))) refl)
 
   -- 7: the delivery, and before it the unit
-  delivery_named_lem : (i : ℕ) (x o : Option ℕ) → x ≡ o → (after : ℕ → Outcome Hour) (tried : ℕ → ℕ → Outcome Direct)
+  delivery_named_lem : (i : ℕ) (x o : Maybe ℕ) → x ≡ o → (after : ℕ → Outcome Hour) (tried : ℕ → ℕ → Outcome Direct)
       → ((j : ℕ) → after j ≡ and_then (tried i j) (λ y. accepted (with_direct h y)))
-      → named x (Names (line_number h)) after ≡ and_then (on_pair (on_spot (spot_of o) (λ j. Both i j)) (Names (line_number h)) tried) (λ y. accepted (with_direct h y))
+      → named x (Names (line_number h)) after ≡ and_then (on_pair (on_spot (spot_of o) (λ j. Some (i, j))) (Names (line_number h)) tried) (λ y. accepted (with_direct h y))
   delivery_named_lem i x none e after tried f = rw e
   delivery_named_lem i x (some j) e after tried f = rw e (f j)
 
-  unit_named_lem : (x o : Option ℕ) → x ≡ kept (λ i. is_unit (source_at h i).plant) o → ((i : ℕ) → o ≡ some i → i < h.nsources)
-      → (after : ℕ → Outcome Hour) (found : ℕ → Pair) (tried : ℕ → ℕ → Outcome Direct)
+  unit_named_lem : (x o : Maybe ℕ) → x ≡ kept (λ i. is_unit (source_at h i).plant) o → ((i : ℕ) → o ≡ some i → i < h.nsources)
+      → (after : ℕ → Outcome Hour) (found : ℕ → Option (ℕ × ℕ)) (tried : ℕ → ℕ → Outcome Direct)
       → ((i : ℕ) → i < h.nsources → is_unit (source_at h i).plant ≡ true
       → after i ≡ and_then (on_pair (found i) (Names (line_number h)) tried) (λ y. accepted (with_direct h y)))
       → named x (Names (line_number h)) after
-      ≡ and_then (on_pair (on_spot (spot_of o) (λ i. when eqb (get_or t.high i 0) 0 then Missing else found i)) (Names (line_number h)) tried) (λ y. accepted (with_direct h y))
+      ≡ and_then (on_pair (on_spot (spot_of o) (λ i. when eqb (get_or t.high i 0) 0 then None else found i)) (Names (line_number h)) tried) (λ y. accepted (with_direct h y))
   unit_named_lem x none e l after found tried f = rw e
   unit_named_lem x (some i) e l after found tried f = go (eqb (get_or t.high i 0) 0) refl
     where
@@ -117,7 +115,7 @@ module _ (h : Hour) (t : Tables) (k : Kept h t) where
 
       go : (z : Bool) → eqb (get_or t.high i 0) 0 ≡ z
           → named x (Names (line_number h)) after
-          ≡ and_then (on_pair (when eqb (get_or t.high i 0) 0 then Missing else found i) (Names (line_number h)) tried) (λ y. accepted (with_direct h y))
+          ≡ and_then (on_pair (when eqb (get_or t.high i 0) 0 then None else found i) (Names (line_number h)) tried) (λ y. accepted (with_direct h y))
       go true z = rw (e, unit, z)
       go false z = rw (e, unit, z) (f i (l i refl) (unit ∙ ap not z))
 

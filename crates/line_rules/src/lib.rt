@@ -2,7 +2,7 @@
 // Contracts cite rules' Reading, and of this crate Spellings (labels as numbers), Tried (2 to 9 on tables kept beside the hour) and Totalled (10 and 11 on totals kept beside it). Internal: the deck's crates and the test of 15 call it.
 #![tactic(auto)]
 
-ghost use Rattle.std.specs.Prelude.{◌≡◌, not, ◌&&◌, ◌+◌, ◌≤◌, ◌<◌, eqb, get_or, set};
+ghost use Rattle.std.specs.Prelude.{◌≡◌, ◌&&◌, ◌+◌, ◌≤◌, ◌<◌, get_or, set, IfSome};
 ghost use Rattle.rules.specs.Answers.{verdict_of};
 ghost use Rattle.rules.specs.Units.{generation, ordered, levelled};
 ghost use Rattle.rules.specs.Reading.{generated, delivered};
@@ -10,30 +10,7 @@ ghost use Rattle.line_rules.specs.Spellings.{half_of, spelling_of, same_spelling
 ghost use Rattle.line_rules.specs.Tried.{entry_of, Few, next_line, label_tried, source_tried, delivery_tried, unit_high, basis_code, code_leaves, below_most, pair_found, direct_tried, above_one, above_all, generated_to, delivered_to};
 ghost use Rattle.line_rules.specs.Totalled.{source_totalled, delivery_totalled, finished_by};
 
-use rules::{
-    Basis, Delivery, Direct, Hour, InputSequence, Label, Plant, Refusal, Source, Unit, Verdict,
-};
-
-// A D line's entry, or why there is none.
-#[derive(Clone, Copy)]
-pub enum Entry {
-    Named(Direct),
-    Unnamed(Refusal),
-}
-
-// The first place that fits.
-#[derive(Clone, Copy)]
-pub enum Spot {
-    At(usize),
-    Nowhere,
-}
-
-// The unit and the delivery that a D line names.
-#[derive(Clone, Copy)]
-pub enum Pair {
-    Both(usize, usize),
-    Missing,
-}
+use rules::{Basis, Delivery, Direct, Hour, InputSequence, Label, Plant, Refusal, Source, Unit};
 
 // The sixteen bytes of a label as two numbers.
 #[derive(Clone, Copy)]
@@ -84,10 +61,8 @@ fn half_of(bytes: [u8; 16], from: usize) -> u64
     ensures { result ≡ half_of bytes from }
 {
     let mut half: u64 = 0;
-    let mut i: usize = 0;
-    while i < 8 {
+    for i in 0..8 {
         half = half * 256 + byte(bytes[from + i]);
-        i += 1;
     }
     half
 }
@@ -95,63 +70,40 @@ fn half_of(bytes: [u8; 16], from: usize) -> u64
 pub fn spelling_of(l: Label) -> Spelling
     ensures { result ≡ spelling_of l }
 {
-    let b = l.bytes;
-    let lo = half_of(b, 0);
-    let hi = half_of(b, 8);
-    Spelling { lo, hi }
-}
-
-fn same_half(a: u64, b: u64) -> bool
-    ensures { result ≡ eqb a b }
-{
-    a == b
+    Spelling {
+        lo: half_of(l.bytes, 0),
+        hi: half_of(l.bytes, 8),
+    }
 }
 
 fn same_spelling(a: Spelling, b: Spelling) -> bool
     ensures { result ≡ same_spelling a b }
 {
-    if !same_half(a.lo, b.lo) {
-        return false;
-    }
-    same_half(a.hi, b.hi)
+    a.lo == b.lo && a.hi == b.hi
 }
 
 // The first of n places of the tables where a spelling stands.
-pub fn find_spelling(lo: &[u64; 32], hi: &[u64; 32], n: usize, k: Spelling) -> Spot
+pub fn find_spelling(lo: &[u64; 32], hi: &[u64; 32], n: usize, k: Spelling) -> Option<usize>
     requires { n ≤ 32 }
-    ensures { result ≡ spelling_found lo.now hi.now n k }
+    ensures found { result ≡ spelling_found lo.now hi.now n k }
+    ensures within { IfSome result (λ i. i < n) }
 {
-    let mut i: usize = 0;
-    while i < n {
+    for i in 0..n {
         let here = Spelling {
             lo: lo[i],
             hi: hi[i],
         };
         if same_spelling(here, k) {
-            return Spot::At(i);
+            return Some(i);
         }
-        i += 1;
     }
-    Spot::Nowhere
+    None
 }
 
 fn in_order(u: Unit) -> bool
     ensures { result ≡ ordered u }
 {
-    let c = u.curve;
-    if u.e < c.k() {
-        return false;
-    }
-    if u.o < u.e {
-        return false;
-    }
-    if u.n < u.o {
-        return false;
-    }
-    if u.g < u.n {
-        return false;
-    }
-    u.g <= u.h
+    u.curve.k() <= u.e && u.e <= u.o && u.o <= u.n && u.n <= u.g && u.g <= u.h
 }
 
 fn in_levels(p: Plant) -> bool
@@ -159,8 +111,7 @@ fn in_levels(p: Plant) -> bool
 {
     match p {
         Plant::Unit(u) => in_order(u),
-        Plant::Purchase { g, rate } => true,
-        Plant::Fixed { g } => true,
+        Plant::Purchase { .. } | Plant::Fixed { .. } => true,
     }
 }
 
@@ -172,6 +123,7 @@ pub fn next_line(n: Counts) -> usize
 }
 
 // 3 to 5, of a line whose class has n entries.
+#[tactic(auto, unfolding(crate::specs::Tried::label_tried))]
 fn take_label(
     line: usize,
     ranged: bool,
@@ -179,23 +131,24 @@ fn take_label(
     spelling: Spelling,
     lo: &[u64; 32],
     hi: &[u64; 32],
-) -> Verdict
+) -> Result<(), Refusal>
     requires { n ≤ 32 }
     ensures { result ≡ verdict_of (label_tried line ranged n spelling lo.now hi.now) }
 {
     if !ranged {
-        return Verdict::Refused(Refusal::Range(line));
+        return Err(Refusal::Range(line));
     }
     if 32 <= n {
-        return Verdict::Refused(Refusal::Full(line));
+        return Err(Refusal::Full(line));
     }
-    if let Spot::At(i) = find_spelling(lo, hi, n, spelling) {
-        return Verdict::Refused(Refusal::Used(line));
+    if find_spelling(lo, hi, n, spelling).is_some() {
+        return Err(Refusal::Used(line));
     }
-    Verdict::Accepted
+    Ok(())
 }
 
 // A source line: 2 to 6.
+#[tactic(auto, unfolding(crate::specs::Tried::source_tried))]
 pub fn take_source(
     n: Counts,
     ranged: bool,
@@ -203,37 +156,36 @@ pub fn take_source(
     spelling: Spelling,
     lo: &[u64; 32],
     hi: &[u64; 32],
-) -> Verdict
+) -> Result<(), Refusal>
     requires { Few n }
     ensures { result ≡ verdict_of (source_tried n ranged plant spelling lo.now hi.now) }
 {
     let line = next_line(n);
     if n.deliveries + n.directs != 0 {
-        return Verdict::Refused(Refusal::Form(line));
+        return Err(Refusal::Form(line));
     }
-    if let Verdict::Refused(r) = take_label(line, ranged, n.sources, spelling, lo, hi) {
-        return Verdict::Refused(r);
-    }
+    take_label(line, ranged, n.sources, spelling, lo, hi)?;
     if !in_levels(plant) {
-        return Verdict::Refused(Refusal::Levels(line));
+        return Err(Refusal::Levels(line));
     }
-    Verdict::Accepted
+    Ok(())
 }
 
 // A T line: 2 to 5.
+#[tactic(auto, unfolding(crate::specs::Tried::delivery_tried))]
 pub fn take_delivery(
     n: Counts,
     ranged: bool,
     spelling: Spelling,
     lo: &[u64; 32],
     hi: &[u64; 32],
-) -> Verdict
+) -> Result<(), Refusal>
     requires { Few n }
     ensures { result ≡ verdict_of (delivery_tried n ranged spelling lo.now hi.now) }
 {
     let line = next_line(n);
     if n.directs != 0 {
-        return Verdict::Refused(Refusal::Form(line));
+        return Err(Refusal::Form(line));
     }
     take_label(line, ranged, n.deliveries, spelling, lo, hi)
 }
@@ -244,8 +196,7 @@ pub fn unit_high(p: Plant) -> u32
 {
     match p {
         Plant::Unit(u) => u.h,
-        Plant::Purchase { g, rate } => 0,
-        Plant::Fixed { g } => 0,
+        Plant::Purchase { .. } | Plant::Fixed { .. } => 0,
     }
 }
 
@@ -263,8 +214,7 @@ fn below_most(b: Basis, most: u32) -> bool
     ensures { result ≡ below_most b most }
 {
     match b {
-        Basis::Low => true,
-        Basis::Generation => true,
+        Basis::Low | Basis::Generation => true,
         Basis::Mwh(v) => v < most,
     }
 }
@@ -272,20 +222,14 @@ fn below_most(b: Basis, most: u32) -> bool
 fn code_leaves(code: u64, b: Basis) -> bool
     ensures { result ≡ code_leaves code b }
 {
-    if code == 0 {
-        return true;
-    }
-    code == basis_code(b)
+    code == 0 || code == basis_code(b)
 }
 
 // The basis of a unit's earlier D lines, or none yet, and a number below its high (8).
 pub fn basis_allowed(b: Basis, code: u64, most: u32) -> bool
     ensures { result ≡ (code_leaves code b && below_most b most) }
 {
-    if !code_leaves(code, b) {
-        return false;
-    }
-    below_most(b, most)
+    code_leaves(code, b) && below_most(b, most)
 }
 
 // The tables after one entry more.
@@ -323,12 +267,12 @@ pub fn keep_direct(x: Direct, based: &mut [u64; 32], percents: &mut [u32; 32])
     ensures percents { percents.new ≡ set percents.old x.source (get_or percents.old x.source 0 + x.percent) }
 {
     let i = x.source;
-    let b = x.basis;
-    based[i] = basis_code(b);
-    percents[i] = percents[i] + x.percent;
+    based[i] = basis_code(x.basis);
+    percents[i] += x.percent;
 }
 
 // The unit and the delivery that a D line names (7).
+#[tactic(auto, unfolding(crate::specs::Tried::pair_found))]
 fn find_pair(
     n: Counts,
     x: DirectLine,
@@ -337,23 +281,21 @@ fn find_pair(
     tlo: &[u64; 32],
     thi: &[u64; 32],
     high: &[u32; 32],
-) -> Pair
+) -> Option<(usize, usize)>
     requires { Few n }
-    ensures { result ≡ pair_found n x slo.now shi.now tlo.now thi.now high.now }
+    ensures found { result ≡ pair_found n x slo.now shi.now tlo.now thi.now high.now }
+    ensures within { IfSome result (λ p. (p.0 < n.sources) × (p.1 < n.deliveries)) }
 {
-    let Spot::At(i) = find_spelling(slo, shi, n.sources, x.unit) else {
-        return Pair::Missing;
-    };
+    let i = find_spelling(slo, shi, n.sources, x.unit)?;
     if high[i] == 0 {
-        return Pair::Missing;
+        return None;
     }
-    let Spot::At(j) = find_spelling(tlo, thi, n.deliveries, x.delivery) else {
-        return Pair::Missing;
-    };
-    Pair::Both(i, j)
+    let j = find_spelling(tlo, thi, n.deliveries, x.delivery)?;
+    Some((i, j))
 }
 
 // A D line: 3, 4 and 7 to 9.
+#[tactic(auto, unfolding(crate::specs::Tried::direct_tried))]
 pub fn take_direct(
     n: Counts,
     ranged: bool,
@@ -365,29 +307,28 @@ pub fn take_direct(
     high: &[u32; 32],
     based: &[u64; 32],
     percents: &[u32; 32],
-) -> Entry
+) -> Result<Direct, Refusal>
     requires { Few n }
     ensures { result ≡ entry_of (direct_tried n ranged x (record { slo = slo.entry.now; shi = shi.now; tlo = tlo.now; thi = thi.now; high = high.now; based = based.now; percents = percents.now })) }
 {
     let line = next_line(n);
     if !ranged {
-        return Entry::Unnamed(Refusal::Range(line));
+        return Err(Refusal::Range(line));
     }
     if 32 <= n.directs {
-        return Entry::Unnamed(Refusal::Full(line));
+        return Err(Refusal::Full(line));
     }
-    let Pair::Both(i, j) = find_pair(n, x, slo, shi, tlo, thi, high) else {
-        return Entry::Unnamed(Refusal::Names(line));
+    let Some((i, j)) = find_pair(n, x, slo, shi, tlo, thi, high) else {
+        return Err(Refusal::Names(line));
     };
-    let b = x.basis;
-    if !basis_allowed(b, based[i], high[i]) {
-        return Entry::Unnamed(Refusal::OtherBasis(line));
+    if !basis_allowed(x.basis, based[i], high[i]) {
+        return Err(Refusal::OtherBasis(line));
     }
     if 100 < wide(percents[i]) + wide(x.percent) {
-        return Entry::Unnamed(Refusal::Percents(line));
+        return Err(Refusal::Percents(line));
     }
-    Entry::Named(Direct {
-        basis: b,
+    Ok(Direct {
+        basis: x.basis,
         percent: x.percent,
         source: i,
         delivery: j,
@@ -401,15 +342,8 @@ pub fn add_source(t: Totals, p: Plant) -> Totals
 {
     Totals {
         generated: t.generated + wide(p.generation()),
-        delivered: t.delivered,
-        numbered: t.numbered,
+        ..t
     }
-}
-
-fn has_number(x: InputSequence) -> bool
-    ensures { result ≡ not (eqb x.0 0) }
-{
-    x.0 != 0
 }
 
 // One delivery more.
@@ -417,12 +351,10 @@ pub fn add_delivery(t: Totals, x: Delivery) -> Totals
     requires { t.delivered ≤ above_all }
     ensures { (result ≡ delivery_totalled t x) × (result.delivered ≤ t.delivered + above_one) }
 {
-    let s = x.sequence;
-    let numbered = t.numbered | has_number(s);
     Totals {
-        generated: t.generated,
         delivered: t.delivered + wide(x.mwh),
-        numbered,
+        numbered: t.numbered || x.sequence.0 != 0,
+        ..t
     }
 }
 
@@ -431,12 +363,8 @@ fn generated_by(sources: [Source; 32], n: usize) -> u64
     ensures { (result ≡ generated_to sources n) × (result ≤ above_all) }
 {
     let mut sum: u64 = 0;
-    let mut i: usize = 0;
-    while i < n {
-        let x = sources[i];
-        let p = x.plant;
-        sum = sum + wide(p.generation());
-        i += 1;
+    for i in 0..n {
+        sum += wide(sources[i].plant.generation());
     }
     sum
 }
@@ -445,8 +373,7 @@ pub fn sum_generated(h: Hour) -> u64
     requires { h.nsources ≤ 32 }
     ensures { (result ≡ generated h) × (result ≤ above_all) }
 {
-    let sources = h.sources;
-    generated_by(sources, h.nsources)
+    generated_by(h.sources, h.nsources)
 }
 
 fn delivered_to(deliveries: [Delivery; 32], n: usize) -> u64
@@ -454,11 +381,8 @@ fn delivered_to(deliveries: [Delivery; 32], n: usize) -> u64
     ensures { (result ≡ delivered_to deliveries n) × (result ≤ above_all) }
 {
     let mut sum: u64 = 0;
-    let mut i: usize = 0;
-    while i < n {
-        let x = deliveries[i];
-        sum = sum + wide(x.mwh);
-        i += 1;
+    for i in 0..n {
+        sum += wide(deliveries[i].mwh);
     }
     sum
 }
@@ -467,23 +391,20 @@ pub fn sum_delivered(h: Hour) -> u64
     requires { h.ndeliveries ≤ 32 }
     ensures { (result ≡ delivered h) × (result ≤ above_all) }
 {
-    let deliveries = h.deliveries;
-    delivered_to(deliveries, h.ndeliveries)
+    delivered_to(h.deliveries, h.ndeliveries)
 }
 
 // After E: 10 and 11. Where no delivery has a number of its own, the first of all is the first without.
-pub fn finish(n: Counts, losses: u32, t: Totals) -> Verdict
+#[tactic(auto, unfolding(crate::specs::Totalled::finished_by))]
+pub fn finish(n: Counts, losses: u32, t: Totals) -> Result<(), Refusal>
     requires { Few n × (t.delivered ≤ above_all) }
     ensures { result ≡ finished_by n losses t }
 {
     if t.generated < wide(losses) + t.delivered {
-        return Verdict::Refused(Refusal::Overdrawn);
+        return Err(Refusal::Overdrawn);
     }
-    if n.deliveries == 0 {
-        return Verdict::Accepted;
+    if n.deliveries == 0 || t.numbered {
+        return Ok(());
     }
-    if t.numbered {
-        return Verdict::Accepted;
-    }
-    Verdict::Refused(Refusal::Unplaced(n.sources + 2))
+    Err(Refusal::Unplaced(n.sources + 2))
 }

@@ -4,8 +4,8 @@
 
 ghost use Rattle.std.specs.Prelude.{◌≡◌, IfOk, vec_len};
 
-use frames::Ending;
-use rules::{Refusal, Written};
+use frames::{Ending, Failure, Window};
+use rules::Refusal;
 use std::alloc::{AllocError, Global};
 use std::io::{Read, Write};
 use std::process::ExitCode;
@@ -15,87 +15,68 @@ use words::WORDS;
 const MOST: usize = 1048576;
 
 // A byte more, which tells a file that is too long.
-const WINDOW: usize = MOST + 1;
+const BUFFER: usize = MOST + 1;
 
 // A file's lines have at most twice its bytes (file_roundtrip's LinesAreShort).
 const ROOM: usize = 2 * MOST;
 
-// Zeros, so many that the checker must not count them: a caller knows their number by these contracts.
-fn window(alloc: Global) -> Result<Vec<u8>, AllocError>
-    ensures { IfOk result (λ v. 1048577 ≡ vec_len v) }
+fn zeros(alloc: Global, n: usize) -> Result<Vec<u8>, AllocError>
+    ensures { IfOk result (λ v. n ≡ vec_len v) }
 {
-    vec![in alloc; 0u8; WINDOW]
-}
-
-fn room(alloc: Global) -> Result<Vec<u8>, AllocError>
-    ensures { IfOk result (λ v. 2097152 ≡ vec_len v) }
-{
-    vec![in alloc; 0u8; ROOM]
+    vec![in alloc; 0u8; n]
 }
 
 // Words about a refused file, for a person. Where standard error is closed, nobody reads them.
 fn explain<E: Write>(errors: &mut E, file: &[u8], record: usize) {
     let mut text = [0u8; WORDS];
     let n = words::explain_record(file, record, &mut text);
-    let _ = errors.write_all(&text[0..n]);
-}
-
-// No other refusal can come: there is room for the lines of every file here.
-fn put_refusal<W: Write, E: Write>(out: &mut W, errors: &mut E, file: &[u8], r: Refusal) -> Ending {
-    let Refusal::FileRecord(record) = r else {
-        return Ending::Unwritten;
-    };
-    if let Err(ending) = frames::put_line(out, b"refused 16 ", record as u64) {
-        return ending;
-    }
-    explain(errors, file, record);
-    Ending::Refused
-}
-
-fn put_text<W: Write>(out: &mut W, text: &[u8], n: usize) -> Ending {
-    if let Err(ending) = frames::put_first(out, text, n) {
-        return ending;
-    }
-    Ending::Written
+    let _ = errors.write_all(&text[..n]);
 }
 
 fn put_lines<W: Write, E: Write>(
-    alloc: Global,
     out: &mut W,
     errors: &mut E,
     file: &[u8],
-) -> Result<Ending, AllocError> {
-    let mut text = room(alloc)?;
-    Ok(match print_file::lines(file, &mut text) {
-        Written::Count(n) => put_text(out, &text, n),
-        Written::Refused(r) => put_refusal(out, errors, file, r),
-    })
+    text: &mut [u8],
+) -> Result<Ending, Failure> {
+    match print_file::lines(file, text) {
+        Ok(n) => {
+            frames::put_first(out, text, n)?;
+            Ok(Ending::Written)
+        }
+        Err(Refusal::FileRecord(k)) => {
+            frames::put_line(out, b"refused 16 ", k as u64)?;
+            explain(errors, file, k);
+            Ok(Ending::Refused)
+        }
+        // None comes: there is room for the lines of every file here.
+        Err(_) => Err(Failure::Unwritten),
+    }
 }
 
-fn run<I: Read, W: Write, E: Write>(
-    alloc: Global,
-    input: &mut I,
-    out: &mut W,
-    errors: &mut E,
-) -> Result<Ending, AllocError> {
-    let mut window = window(alloc)?;
-    let g = frames::fill(input, &mut window);
-    if g.failed {
-        return Ok(Ending::Unread);
+fn read<I: Read>(input: &mut I, window: &mut Window) -> Result<(), Failure> {
+    window.fill(input)?;
+    if MOST < window.unused().len() {
+        return Err(Failure::TooLong);
     }
-    let n = g.have;
-    if MOST < n {
-        return Ok(Ending::TooLong);
-    }
-    put_lines(alloc, out, errors, &window[0..n])
+    Ok(())
 }
 
 // Where there is no memory for a file and its lines, nothing is told.
 fn main(rt: HostRuntime) -> Result<ExitCode, AllocError> {
-    let mut input = rt.stdin();
-    let mut out = rt.stdout();
-    let mut errors = rt.stderr();
-    let ending = run(rt.alloc(), &mut input, &mut out, &mut errors)?;
-    frames::tell(&rt, ending);
-    Ok(frames::status(ending))
+    let mut buffer = zeros(rt.alloc(), BUFFER)?;
+    let mut window = Window::new(&mut buffer);
+    let ended = match read(&mut rt.stdin(), &mut window) {
+        Ok(()) => {
+            let mut text = zeros(rt.alloc(), ROOM)?;
+            put_lines(
+                &mut rt.stdout(),
+                &mut rt.stderr(),
+                window.unused(),
+                &mut text,
+            )
+        }
+        Err(failure) => Err(failure),
+    };
+    Ok(frames::end(&rt, ended))
 }

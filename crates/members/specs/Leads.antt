@@ -1,19 +1,21 @@
 -- The groups' first members, and all groups' shares in the hour's cells.
-use Rattle.std.specs.Prelude.{Bool, true, false, List, ◌≡◌, refl, ℕ, suc, ◌+◌, ◌-◌, ◌*◌, ◌/◌, ◌%◌, ◌≤◌, ◌<◌, ℤ, pos, length, get_or}
-use Rattle.std.proofs.Common.{sym, ap, ◌∙◌, arith}
+use Rattle.std.specs.Prelude.{Bool, true, false, List, ◌≡◌, refl, ℕ, suc, ◌+◌, ◌-◌, ◌*◌, ◌/◌, ◌%◌, ◌≤◌, ◌<◌, ℤ, pos, length, get_or, take, Option, Some, None, MatchOption}
+use Rattle.std.specs.List.{AllWithin, HoldsAt}
+use Rattle.std.proofs.lemmas.List.{get_or-take}
+use Rattle.std.proofs.Common.{sym, ap, ◌∙◌, arith, length-take}
 use Rattle.std.proofs.Math.Decide.{dec_lt}
 use Rattle.balance.specs.AnswerCells.{cell_at, pair_place}
 use Rattle.laws.specs.Keys.{key_same, key_itself}
 use Rattle.laws.specs.Sums.{below_suc, sum_to_zero}
 use Rattle.members.specs.Live.{amount_at, amount_told}
-use Rattle.members.specs.Members.{MwhsSmall, MwhsOf, scheduled_in, share_in, due_in, RowsGiven, RowsWritten, earlier, mwhs_small, scheduled_in_lem}
+use Rattle.members.specs.Members.{MwhsSmall, MwhsOf, scheduled_in, share_in, due_in, RowsGiven, RowsWritten, mwhs_small, scheduled_in_lem}
 use Rattle.members.specs.Shared.{DeliveriesSmall}
 use Rattle.merit.specs.LevelNeverBelowB.{state_at}
 use Rattle.merit.specs.NumbersStaySmall.{Small}
 use Rattle.moves.specs.MovesKept.{AllLow}
 use Rattle.moves.specs.ToldIsTaken.{told, item_at, told_small}
 use Rattle.rules.specs.Group.{Amount}
-use Rattle.rules.specs.Hour.{key_at, member, scheduled, counted, share, pair_width}
+use Rattle.rules.specs.Hour.{no_key, key_at, member, scheduled, counted, share, pair_width}
 use Rattle.rules.specs.Hour.{same_key}
 use Rattle.rules.specs.declared.Hour.{Hour}
 use Rattle.rules.specs.declared.Key.{Key}
@@ -62,6 +64,20 @@ same_member x y e = rw e (key_itself y)
 pub lead_none : (ks : List Key) (n : ℕ) (x : Key) → ((k : ℕ) → k < n → member ks x k ≡ false) → counted ks x n ≡ 0
 lead_none ks n x h = sum_to_zero n _ (λ k l. rw (h k l))
 
+-- the first that has the key, where one has it
+pub lead_found : (ks : List Key) (n : ℕ) (x : Key) → n ≤ length ks → 0 < counted ks x n → (r : Option ℕ)
+    → MatchOption r (AllWithin (λ y. same_key y x ≡ false) (take n ks) 0 (length (take n ks)))
+    (λ j. (j < length (take n ks)) × HoldsAt (λ y. same_key y x ≡ true) (take n ks) j × AllWithin (λ y. same_key y x ≡ false) (take n ks) 0 j)
+    → MatchOption r ⊥ (Lead ks n x)
+lead_found ks n x l c None h = omega (arith, c, lead_none ks n x (λ k m. rw (sym (get_or-take n ks k no_key m)) (h k no_key (omega arith) (omega (arith, length-take n ks)))))
+lead_found ks n x l c (Some j) h =
+    let inside : j < n = omega (arith, h.0, length-take n ks) in
+    record {
+      within = inside;
+      key = rw (sym (get_or-take n ks j no_key inside)) (h.1 no_key);
+      first = λ k m. rw (sym (get_or-take n ks k no_key (omega arith))) (h.2 k no_key (omega arith) m);
+    }
+
 -- The groups that are led, in deck order of their leads.
 
 -- after the first j deliveries: the members of groups led by them have their shares, the others' rows are still blank
@@ -73,14 +89,6 @@ pub record Leading (sources n : ℕ) (ms : List ℕ) (ks : List Key) (led : List
   pub beyond : (p : ℕ) → n * (sources * pair_width) ≤ p → cell_at ys p ≡ cell_at xs p
 
 module _ (sources n : ℕ) (ms : List ℕ) (ks : List Key) (led : List ℕ) (es : List Running) (kept : List ℕ) (xs : List ℤ) (g : AllGiven sources n ms ks led es kept xs) where
-  pub leading_none : Leading sources n ms ks led es kept xs 0 xs
-  leading_none = record {
-    long = refl;
-    rows = λ i k q l. absurd (omega arith);
-    blank = λ k q l m f. g.blank (k * (sources * pair_width) + q) (earlier k n (sources * pair_width) q l m);
-    beyond = λ p l. refl;
-  }
-
   pub leading_skip : (j : ℕ) (ys : List ℤ) → get_or led j 0 ≤ 0 → Leading sources n ms ks led es kept xs j ys → Leading sources n ms ks led es kept xs (j + 1) ys
   leading_skip j ys z s = record {
     long = s.long;
@@ -143,13 +151,6 @@ module _ (sources n : ℕ) (ms : List ℕ) (ks : List Key) (led : List ℕ) (es 
             go : (b : Bool) → member ks (key_at ks j) k ≡ b → b ≡ false
             go true h = absurd (never f (apart i k m h))
             go false h = refl
-
-  pub leading_all : (j : ℕ) (ys : List ℤ) → j ≤ n → n ≤ j → Leading sources n ms ks led es kept xs j ys → AllShared sources n ms ks led es kept xs ys
-  leading_all j ys l m s = record {
-    long = s.long;
-    rows = λ i k q o. s.rows i k q (omega arith);
-    beyond = s.beyond;
-  }
 
 -- In the hour's words.
 

@@ -1,44 +1,61 @@
--- The places of a row that are gone through: those whose size is not 0, in order.
-use Rattle.std.specs.Prelude.{Bool, false, List, map, ◌≡◌, length, get_or, set}
+-- The amounts of a row that are gone through: those whose size is not 0, in the order of their places.
+use Rattle.std.specs.Prelude.{Bool, true, false, List, [], ◌∷◌, ◌++◌, map, ◌≡◌, eqb, length, get_or}
 use Rattle.std.proofs.Math.Path.{refl}
-use Rattle.std.proofs.Common.{sym, ap, ◌∙◌, add-one, length-set, get_or-set_same, get_or-set_other}
+use Rattle.std.proofs.Common.{sym, ap, ◌∙◌, add-one, eqb-true, length-append}
+use Rattle.std.proofs.Math.ListN.{get_or-map}
+use Rattle.std.proofs.lemmas.List.{get_or_append_left, get_or_push}
 use Prim.Native.Nat.{ℕ, zero, suc, ◌+◌, ◌*◌, ◌/◌, ◌%◌, ◌≤◌, ◌<◌}
 use Rattle.std.proofs.Math.Decide.{dec_lt}
 use native.Mathlib.Omega.{arith}
 use Rattle.laws.specs.Sums.{below_suc}
 use Rattle.merit.specs.LevelNeverBelowB.{state_at}
 use Rattle.moves.specs.MovesKept.{before, after}
-use Rattle.moves.specs.ToldIsTaken.{told, item_at, told_none}
-use Rattle.moves.specs.declared.Amounts.{Amounts}
+use Rattle.moves.specs.ToldIsTaken.{told, amount_of, item_at, told_none}
+use Rattle.moves.specs.declared.Taken.{Taken}
+use Rattle.members.specs.declared.live.Placed.{Placed}
 use Rattle.rules.specs.Group.{Item, Amount}
 use Rattle.rules.specs.Hour.{items, pair_width}
+use Rattle.rules.specs.Words.{when◌then◌else◌}
 use Rattle.rules.specs.declared.Running.{Running}
 
 -- a row's places: a pair's cells, of each of 32 sources
 abbrev pub row_width : ℕ
 row_width = 32 * pair_width
 
--- how far the first k listed places reach: one past the last of them
-unfoldable pub reached : List ℕ → ℕ → ℕ
-reached live zero = 0
-reached live (suc k) = get_or live k 0 + 1
+abbrev pub nothing : Taken
+nothing = record { size = 0; minus = false }
+
+abbrev pub nowhere : Placed
+nowhere = record { place = 0; amount = nothing }
+
+-- where the i-th of them stands
+abbrev pub place_at : List Placed → ℕ → ℕ
+place_at xs i = (get_or xs i nowhere).place
+
+-- and its amount
+abbrev pub placed_at : List Placed → ℕ → Amount
+placed_at xs i = amount_of (get_or xs i nowhere).amount
+
+-- how far the first k of them reach: one past the last
+unfoldable pub reached : List Placed → ℕ → ℕ
+reached xs zero = 0
+reached xs (suc k) = place_at xs k + 1
+
+-- the amount of place q after those before it, if it is not 0
+abbrev pub pushed : List Placed → ℕ → Taken → List Placed
+pushed xs q a = when eqb a.size 0 then xs else xs ++ record { place = q; amount = a } ∷ []
 
 -- the amount at place q of a group's row, from a place of the table on, by the states in the end
 abbrev pub amount_at : List Running → List ℕ → ℕ → ℕ → Amount
 amount_at es kept from q = told (state_at es (q / pair_width)) (get_or kept (from + q / pair_width) 0) (item_at (q % pair_width))
 
--- the places below q but the first k listed, which rise, have size 0; those listed have their amounts beside them
-pub record Listed (a : ℕ → Amount) (q : ℕ) (live sizes : List ℕ) (minus : List Bool) (k : ℕ) : Type 0 where
-  pub long : length live ≡ row_width
-  pub sizes_long : length sizes ≡ row_width
-  pub minus_long : length minus ≡ row_width
-  pub few : k ≤ q
-  pub place : (i : ℕ) → i < k → get_or live i 0 < q
-  pub rises : (i : ℕ) → i < k → reached live i ≤ get_or live i 0
-  pub between : (i p : ℕ) → i < k → reached live i ≤ p → p < get_or live i 0 → (a p).size ≡ 0
-  pub after : (p : ℕ) → reached live k ≤ p → p < q → (a p).size ≡ 0
-  pub size : (i : ℕ) → i < k → get_or sizes i 0 ≡ (a (get_or live i 0)).size
-  pub sign : (i : ℕ) → i < k → get_or minus i false ≡ (a (get_or live i 0)).minus
+-- the places below q but those of xs, which rise, have size 0; xs has the amounts of the others
+pub record Listed (a : ℕ → Amount) (q : ℕ) (xs : List Placed) : Type 0 where
+  pub place : (i : ℕ) → i < length xs → place_at xs i < q
+  pub rises : (i : ℕ) → i < length xs → reached xs i ≤ place_at xs i
+  pub between : (i p : ℕ) → i < length xs → reached xs i ≤ p → p < place_at xs i → (a p).size ≡ 0
+  pub after : (p : ℕ) → reached xs (length xs) ≤ p → p < q → (a p).size ≡ 0
+  pub amount : (i : ℕ) → i < length xs → placed_at xs i ≡ a (place_at xs i)
 
 -- an item's amount is what the source's entry tells
 pub amount_told : (es : List Running) (kept : List ℕ) (from i k : ℕ) → k < pair_width → amount_at es kept from (i * pair_width + k) ≡ told (state_at es i) (get_or kept (from + i) 0) (item_at k)
@@ -52,116 +69,90 @@ pub source_none : (es : List Running) (kept : List ℕ) (from i : ℕ) → befor
     → (amount_at es kept from p).size ≡ 0
 source_none es kept from i h p l n = let e : p / pair_width ≡ i = omega arith in rw e (told_none (state_at es i) (get_or kept (from + i) 0) h (item_at (p % pair_width)))
 
-pub reached_more : (live : List ℕ) (k : ℕ) → reached live (k + 1) ≡ get_or live k 0 + 1
+pub reached_more : (xs : List Placed) (k : ℕ) → reached xs (k + 1) ≡ place_at xs k + 1
 unfolding reached
-reached_more live k = rw (add-one k)
+reached_more xs k = rw (add-one k)
 
--- a place set at k changes nothing of the first k
-module _ (live : List ℕ) (k q : ℕ) where
-  kept : (i : ℕ) → i < k → get_or (set live k q) i 0 ≡ get_or live i 0
-  kept i l = get_or-set_other live k i q 0 (λ e. omega arith)
-
-  reached_kept : (i : ℕ) → i ≤ k → reached (set live k q) i ≡ reached live i
+module _ (a : ℕ → Amount) where
+  pub reached_most : (q : ℕ) (xs : List Placed) → Listed a q xs → (k : ℕ) → k ≤ length xs → reached xs k ≤ q
   unfolding reached
-  reached_kept zero l = refl
-  reached_kept (suc i) l = omega (arith, kept i (omega arith))
+  reached_most q xs s zero l = omega arith
+  reached_most q xs s (suc k) l = omega (arith, s.place k (omega arith))
 
-module _ (a : ℕ → Amount) (live sizes : List ℕ) (minus : List Bool) where
-  pub reached_most : (q k : ℕ) → Listed a q live sizes minus k → reached live k ≤ q
-  unfolding reached
-  reached_most q zero l = omega arith
-  reached_most q (suc k) l = omega (arith, l.place k (omega arith))
-
-  pub listed_none : length live ≡ row_width → length sizes ≡ row_width → length minus ≡ row_width → Listed a 0 live sizes minus 0
-  listed_none h n b = record {
-    long = h;
-    sizes_long = n;
-    minus_long = b;
-    few = omega arith;
+  pub listed_none : Listed a 0 []
+  listed_none = record {
     place = λ i l. absurd (omega arith);
     rises = λ i l. absurd (omega arith);
     between = λ i p l m o. absurd (omega arith);
     after = λ p l m. absurd (omega arith);
-    size = λ i l. absurd (omega arith);
-    sign = λ i l. absurd (omega arith);
+    amount = λ i l. absurd (omega arith);
   }
 
   -- places of size 0 passed by
-  pub listed_idle : (q r k : ℕ) → q ≤ r → ((p : ℕ) → q ≤ p → p < r → (a p).size ≡ 0) → Listed a q live sizes minus k → Listed a r live sizes minus k
-  listed_idle q r k l none s = record {
-    long = s.long;
-    sizes_long = s.sizes_long;
-    minus_long = s.minus_long;
-    few = omega (arith, s.few);
+  pub listed_idle : (q r : ℕ) (xs : List Placed) → q ≤ r → ((p : ℕ) → q ≤ p → p < r → (a p).size ≡ 0) → Listed a q xs → Listed a r xs
+  listed_idle q r xs l none s = record {
     place = λ i m. omega (arith, s.place i m);
     rises = s.rises;
     between = s.between;
     after = λ p x y. elim (dec_lt p q) [ yes z ↦ s.after p x z | no z ↦ none p (omega arith) y ];
-    size = s.size;
-    sign = s.sign;
+    amount = s.amount;
   }
 
-  module _ (q k : ℕ) (within : q < row_width) (s : Listed a q live sizes minus k) (n : ℕ) (b : Bool) where
-    size_kept : (i : ℕ) → i < k → get_or (set sizes k n) i 0 ≡ (a (get_or (set live k q) i 0)).size
-    size_kept i l = get_or-set_other sizes k i n 0 (λ e. omega arith) ∙ s.size i l ∙ ap (λ (p : ℕ). (a p).size) (sym (kept live k q i l))
+  -- one more
+  module _ (q : ℕ) (xs : List Placed) (s : Listed a q xs) (x : Taken) (e : amount_of x ≡ a q) where
+    abbrev ys : List Placed
+    ys = xs ++ record { place = q; amount = x } ∷ []
 
-    sign_kept : (i : ℕ) → i < k → get_or (set minus k b) i false ≡ (a (get_or (set live k q) i 0)).minus
-    sign_kept i l = get_or-set_other minus k i b false (λ e. omega arith) ∙ s.sign i l ∙ ap (λ (p : ℕ). (a p).minus) (sym (kept live k q i l))
+    kept : (i : ℕ) → i < length xs → get_or ys i nowhere ≡ get_or xs i nowhere
+    kept i l = get_or_append_left xs (record { place = q; amount = x } ∷ []) nowhere i l
 
-    -- place q, written at k, is not counted
-    pub listed_skip : (a q).size ≡ 0 → Listed a (q + 1) (set live k q) (set sizes k n) (set minus k b) k
-    listed_skip e = record {
-      long = length-set live k q ∙ s.long;
-      sizes_long = length-set sizes k n ∙ s.sizes_long;
-      minus_long = length-set minus k b ∙ s.minus_long;
-      few = omega (arith, s.few);
-      place = λ i l. omega (arith, kept live k q i l, s.place i l);
-      rises = λ i l. omega (arith, kept live k q i l, reached_kept live k q i (omega arith), s.rises i l);
-      between = λ i p l m o. s.between i p l (omega (arith, reached_kept live k q i (omega arith))) (omega (arith, kept live k q i l));
-      after = λ p l m. below_suc (λ p. reached live k ≤ p → (a p).size ≡ 0) q (λ p o r. s.after p r o) (λ r. e) p (omega arith) (omega (arith, reached_kept live k q k (omega arith)));
-      size = size_kept;
-      sign = sign_kept;
-    }
+    here : get_or ys (length xs) nowhere ≡ record { place = q; amount = x }
+    here = get_or_push xs (record { place = q; amount = x }) nowhere (length xs) refl
 
-    -- or is
-    pub listed_more : n ≡ (a q).size → b ≡ (a q).minus → Listed a (q + 1) (set live k q) (set sizes k n) (set minus k b) (k + 1)
-    listed_more e f = record {
-      long = length-set live k q ∙ s.long;
-      sizes_long = length-set sizes k n ∙ s.sizes_long;
-      minus_long = length-set minus k b ∙ s.minus_long;
-      few = omega (arith, s.few);
-      place = λ i l. below_suc (λ i. get_or (set live k q) i 0 < q + 1) k (λ i m. omega (arith, kept live k q i m, s.place i m)) (omega (arith, here)) i (omega arith);
-      rises = λ i l. below_suc (λ i. reached (set live k q) i ≤ get_or (set live k q) i 0) k
-          (λ i m. omega (arith, kept live k q i m, reached_kept live k q i (omega arith), s.rises i m))
-          (omega (arith, here, reached_kept live k q k (omega arith), reached_most q k s)) i (omega arith);
-      between = λ i p l. below_suc (λ i. reached (set live k q) i ≤ p → p < get_or (set live k q) i 0 → (a p).size ≡ 0) k
-          (λ i m r o. s.between i p m (omega (arith, reached_kept live k q i (omega arith))) (omega (arith, kept live k q i m)))
-          (λ r o. s.after p (omega (arith, reached_kept live k q k (omega arith))) (omega (arith, here))) i (omega arith);
-      after = λ p l m. absurd (omega (arith, reached_more (set live k q) k, here));
-      size = λ i l. below_suc (λ i. get_or (set sizes k n) i 0 ≡ (a (get_or (set live k q) i 0)).size) k size_kept
-          (get_or-set_same sizes k n 0 (omega (arith, s.sizes_long, s.few)) ∙ e ∙ ap (λ (p : ℕ). (a p).size) (sym here)) i (omega arith);
-      sign = λ i l. below_suc (λ i. get_or (set minus k b) i false ≡ (a (get_or (set live k q) i 0)).minus) k sign_kept
-          (get_or-set_same minus k b false (omega (arith, s.minus_long, s.few)) ∙ f ∙ ap (λ (p : ℕ). (a p).minus) (sym here)) i (omega arith);
+    kept_place : (i : ℕ) → i < length xs → place_at ys i ≡ place_at xs i
+    kept_place i l = ap (λ (p : Placed). p.place) (kept i l)
+
+    here_place : place_at ys (length xs) ≡ q
+    here_place = ap (λ (p : Placed). p.place) here
+
+    long : length ys ≡ length xs + 1
+    long = length-append xs (record { place = q; amount = x } ∷ [])
+
+    reached_kept : (i : ℕ) → i ≤ length xs → reached ys i ≡ reached xs i
+    unfolding reached
+    reached_kept zero l = refl
+    reached_kept (suc i) l = ap (λ (n : ℕ). n + 1) (kept_place i (omega arith))
+
+    listed_more : Listed a (q + 1) ys
+    listed_more = record {
+      place = λ i l. each (λ i. place_at ys i < q + 1) (λ i m. omega (arith, kept_place i m, s.place i m)) (omega (arith, here_place)) i l;
+      rises = λ i l. each (λ i. reached ys i ≤ place_at ys i)
+          (λ i m. omega (arith, kept_place i m, reached_kept i (omega arith), s.rises i m))
+          (omega (arith, here_place, reached_kept (length xs) (omega arith), reached_most q xs s (length xs) (omega arith))) i l;
+      between = λ i p l. each (λ i. reached ys i ≤ p → p < place_at ys i → (a p).size ≡ 0)
+          (λ i m r o. s.between i p m (omega (arith, reached_kept i (omega arith))) (omega (arith, kept_place i m)))
+          (λ r o. s.after p (omega (arith, reached_kept (length xs) (omega arith))) (omega (arith, here_place))) i l;
+      after = λ p l m. absurd (omega (arith, long, ap (reached ys) long, reached_more ys (length xs), here_place));
+      amount = λ i l. each (λ i. placed_at ys i ≡ a (place_at ys i))
+          (λ i m. ap (λ (p : Placed). amount_of p.amount) (kept i m) ∙ s.amount i m ∙ ap a (sym (kept_place i m)))
+          (ap (λ (p : Placed). amount_of p.amount) here ∙ e ∙ ap a (sym here_place)) i l;
     }
       where
-        here : get_or (set live k q) k 0 ≡ q
-        here = get_or-set_same live k q 0 (omega (arith, s.long, s.few))
+        each : (P : ℕ → Type 0) → ((i : ℕ) → i < length xs → P i) → P (length xs) → (i : ℕ) → i < length ys → P i
+        each P f g i l = below_suc P (length xs) f g i (omega (arith, long))
 
-  pub listed_all : (width q k : ℕ) → q ≤ width → width ≤ q → Listed a q live sizes minus k → Listed a width live sizes minus k
-  listed_all width q k l m s = let e : q ≡ width = omega arith in rw e at s
+  pub listed_pushed : (q : ℕ) (xs : List Placed) → Listed a q xs → (x : Taken) → amount_of x ≡ a q → Listed a (q + 1) (pushed xs q x)
+  listed_pushed q xs s x e = go (eqb x.size 0) refl
+    where
+      go : (b : Bool) → eqb x.size 0 ≡ b → Listed a (q + 1) (when b then xs else xs ++ record { place = q; amount = x } ∷ [])
+      go true z = listed_idle q (q + 1) xs (omega arith) (λ p l m. let here : p ≡ q = omega arith in omega (arith, ap (λ (p : ℕ). (a p).size) here, ap (λ (t : Amount). t.size) e, eqb-true x.size 0 z)) s
+      go false z = listed_more q xs s x e
 
 -- The items of one source.
 
 -- its amounts are those of the places from q on
-abbrev pub Items : (ℕ → Amount) → ℕ → Amounts → Type 0
-Items a q t = (k : ℕ) → k < pair_width → (get_or t.sizes k 0 ≡ (a (q + k)).size) × (get_or t.minus k false ≡ (a (q + k)).minus)
-
--- they may be listed
-pub record ItemsReady (q : ℕ) (t : Amounts) (live sizes : List ℕ) (minus : List Bool) (k : ℕ) : Type 0 where
-  pub a : ℕ → Amount
-  pub items : Items a q t
-  pub listed : Listed a q live sizes minus k
-  pub room : q + pair_width ≤ row_width
+abbrev pub Items : (ℕ → Amount) → ℕ → List Taken → Type 0
+Items a q ts = (k : ℕ) → k < pair_width → amount_of (get_or ts k nothing) ≡ a (q + k)
 
 -- a number of each item in a list, read at an item's place
 pub item_read : {A : Type 0} (f : Item → A) (d : A) (k : ℕ) → k < pair_width → get_or (map f items) k d ≡ f (item_at k)
@@ -172,10 +163,6 @@ item_read f d (suc (suc (suc zero))) l = refl
 item_read f d (suc (suc (suc (suc k)))) l = absurd (omega arith)
 
 -- what source i's entry tells
-pub items_told : (es : List Running) (kept : List ℕ) (from i : ℕ) (t : Amounts) → let Told_here = told (state_at es i) (get_or kept (from + i) 0) in
-    t.sizes ≡ map (λ item. (Told_here item).size) items → t.minus ≡ map (λ item. (Told_here item).minus) items → Items (amount_at es kept from) (i * pair_width) t
-items_told es kept from i t e f k l =
-    let h = amount_told es kept from i k l in (
-      ap (λ (xs : List ℕ). get_or xs k 0) e ∙ item_read (λ item. (told (state_at es i) (get_or kept (from + i) 0) item).size) 0 k l ∙ sym (ap (λ (x : Amount). x.size) h),
-      ap (λ (xs : List Bool). get_or xs k false) f ∙ item_read (λ item. (told (state_at es i) (get_or kept (from + i) 0) item).minus) false k l ∙ sym (ap (λ (x : Amount). x.minus) h),
-    )
+pub items_told : (es : List Running) (kept : List ℕ) (from i : ℕ) (ts : List Taken) → map amount_of ts ≡ map (told (state_at es i) (get_or kept (from + i) 0)) items → Items (amount_at es kept from) (i * pair_width) ts
+items_told es kept from i ts e k l =
+    sym (get_or-map amount_of ts k nothing) ∙ ap (λ (xs : List Amount). get_or xs k (amount_of nothing)) e ∙ item_read (told (state_at es i) (get_or kept (from + i) 0)) (amount_of nothing) k l ∙ sym (amount_told es kept from i k l)

@@ -6,6 +6,7 @@ use Rattle.balance.specs.AnswerCells.{cell_at}
 use Rattle.laws.specs.Parts.{up_to_start, up_to_grows}
 use Rattle.laws.specs.Sums.{below_suc, sum_to_none, sum_to_same, sum_to_more, sum_to_longer, sum_to_bound}
 use Rattle.members.specs.Live.{row_width, Listed}
+use Rattle.members.specs.declared.live.Placed.{Placed}
 use Rattle.members.specs.Rows.{SizesSmall, RowFits, Row}
 use Rattle.members.specs.Shared.{DeliveriesSmall}
 use Rattle.rules.specs.Group.{Amount, signed, up_to}
@@ -64,11 +65,11 @@ pub record RowsGiven (width n : ℕ) (ms : List ℕ) (ks : List Key) (x : Key) (
   pub sizes_small : SizesSmall width a
   pub blank : (k q : ℕ) → k < n → member ks x k ≡ true → q < width → cell_at xs (k * width + q) ≡ pos 0
 
--- it may be written, of the amounts whose places are listed
-pub record RowsReady (width n : ℕ) (ms : List ℕ) (ks : List Key) (x : Key) (total : ℕ) (live sizes : List ℕ) (minus : List Bool) (places : ℕ) (xs : List ℤ) : Type 0 where
+-- they may be written, of the amounts that are listed
+pub record RowsReady (width n : ℕ) (ms : List ℕ) (ks : List Key) (x : Key) (total : ℕ) (live : List Placed) (xs : List ℤ) : Type 0 where
   pub a : ℕ → Amount
   pub given : RowsGiven width n ms ks x total a xs
-  pub listed : Listed a width live sizes minus places
+  pub listed : Listed a width live
 
 -- what member k has of the amount at place q: what is more with it
 abbrev pub share_in : List ℕ → List Key → Key → ℕ → (ℕ → Amount) → ℕ → ℕ → ℤ

@@ -5,7 +5,8 @@ use Rattle.std.proofs.Math.Decide.{dec_lt}
 use Rattle.balance.specs.AnswerCells.{cell_at}
 use Rattle.laws.specs.Parts.{up_to_nothing}
 use Rattle.laws.specs.Sums.{below_suc}
-use Rattle.members.specs.Live.{row_width, reached, Listed, reached_more, reached_most}
+use Rattle.members.specs.Live.{row_width, place_at, placed_at, reached, Listed, reached_more, reached_most}
+use Rattle.members.specs.declared.live.Placed.{Placed}
 use Rattle.rules.specs.Group.{Amount, signed, up_to}
 
 abbrev pub SizesSmall : ℕ → (ℕ → Amount) → Type 0
@@ -24,11 +25,12 @@ pub record RowFits (at width total count mwh : ℕ) (a : ℕ → Amount) (had : 
   pub grows : (q : ℕ) → q < width → get_or had q 0 ≤ up_to total (a q).size count mwh
   pub blank : (q : ℕ) → q < width → cell_at xs (at + q) ≡ pos 0
 
--- it may be written, of the amounts whose places are listed
-pub record RowReady (at width total count mwh : ℕ) (live sizes : List ℕ) (minus : List Bool) (places : ℕ) (had : List ℕ) (xs : List ℤ) : Type 0 where
+-- it may be written, of the amounts that are listed
+pub record RowReady (at total count mwh : ℕ) (live : List Placed) (had : List ℕ) (xs : List ℤ) : Type 0 where
+  pub width : ℕ
   pub a : ℕ → Amount
   pub fits : RowFits at width total count mwh a had xs
-  pub listed : Listed a width live sizes minus places
+  pub listed : Listed a width live
 
 -- its share of each size stands from `at` on, and the rest stays
 pub record Row (at total count mwh : ℕ) (a : ℕ → Amount) (had : List ℕ) (xs : List ℤ) (width : ℕ) (has : List ℕ) (ys : List ℤ) : Type 0 where
@@ -47,7 +49,7 @@ signed_nothing false n e = rw e
 -- The row's loop: up to where the listed places reach.
 
 module _ (at total count mwh : ℕ) (a : ℕ → Amount) (had : List ℕ) (xs : List ℤ) where
-  pub row_none : (live : List ℕ) → Row at total count mwh a had xs (reached live 0) had xs
+  pub row_none : (live : List Placed) → Row at total count mwh a had xs (reached live 0) had xs
   unfolding reached
   row_none live = record {
     has_long = refl;
@@ -102,19 +104,19 @@ module _ (at total count mwh : ℕ) (a : ℕ → Amount) (had : List ℕ) (xs : 
       nothing : (k : ℕ) → p ≤ k → k < q → 0 ≡ up_to total (a k).size count mwh
       nothing k x y = up_to_nothing total (a k).size count mwh (n k x y)
 
-  -- the next listed place
-  pub row_next : (width places k : ℕ) (live sizes : List ℕ) (minus : List Bool) (has : List ℕ) (ys : List ℤ) (v : ℕ) (z : ℤ) → RowFits at width total count mwh a had xs
-      → Listed a width live sizes minus places → k < places → Row at total count mwh a had xs (reached live k) has ys
-      → v ≡ up_to total (get_or sizes k 0) count mwh → z ≡ signed (get_or minus k false) (v - get_or has (get_or live k 0) 0)
-      → Row at total count mwh a had xs (reached live (k + 1)) (set has (get_or live k 0) v) (set ys (at + get_or live k 0) z)
-  row_next width places k live sizes minus has ys v z f l m r e s =
-      let q = get_or live k 0 in
-      let inside : get_or live k 0 < width = l.place k m in
+  -- the next that is listed
+  pub row_next : (width k : ℕ) (live : List Placed) (has : List ℕ) (ys : List ℤ) (v : ℕ) (z : ℤ) → RowFits at width total count mwh a had xs
+      → Listed a width live → k < length live → Row at total count mwh a had xs (reached live k) has ys
+      → v ≡ up_to total (placed_at live k).size count mwh → z ≡ signed (placed_at live k).minus (v - get_or has (place_at live k) 0)
+      → Row at total count mwh a had xs (reached live (k + 1)) (set has (place_at live k) v) (set ys (at + place_at live k) z)
+  row_next width k live has ys v z f l m r e s =
+      let q = place_at live k in
+      let inside : place_at live k < width = l.place k m in
       rw (reached_more live k) (row_more width q has ys v z f inside
-      (row_idle width (reached live k) q has ys f (l.rises k m) (omega arith) (λ i x y. l.between k i m x y) r) (rw (l.size k m) at e) (rw (l.sign k m) at s))
+      (row_idle width (reached live k) q has ys f (l.rises k m) (omega arith) (λ i x y. l.between k i m x y) r) (rw (l.amount k m) at e) (rw (l.amount k m) at s))
 
-  pub row_all : (width places k : ℕ) (live sizes : List ℕ) (minus : List Bool) (has : List ℕ) (ys : List ℤ) → RowFits at width total count mwh a had xs
-      → Listed a width live sizes minus places → k ≤ places → places ≤ k → Row at total count mwh a had xs (reached live k) has ys → Row at total count mwh a had xs width has ys
-  row_all width places k live sizes minus has ys f l x y r =
-      let e : k ≡ places = omega arith in
-      row_idle width (reached live places) width has ys f (reached_most a live sizes minus width places l) (omega arith) l.after (rw e at r)
+  pub row_all : (width k : ℕ) (live : List Placed) (has : List ℕ) (ys : List ℤ) → RowFits at width total count mwh a had xs
+      → Listed a width live → k ≤ length live → length live ≤ k → Row at total count mwh a had xs (reached live k) has ys → Row at total count mwh a had xs width has ys
+  row_all width k live has ys f l x y r =
+      let e : k ≡ length live = omega arith in
+      row_idle width (reached live (length live)) width has ys f (reached_most a width live l (length live) (omega arith)) (omega arith) l.after (rw e at r)

@@ -22,10 +22,7 @@ fn with_sign(minus: bool, size: u64) -> i64
     ensures { result ≡ signed minus size }
 {
     let x = size as i64;
-    if minus {
-        return 0 - x;
-    }
-    x
+    if minus { -x } else { x }
 }
 
 // A member's share: what all have with it, less what they had before it.

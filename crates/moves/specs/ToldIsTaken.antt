@@ -8,6 +8,7 @@ use Rattle.moves.specs.LaterStates.{Later, later_then, took_later, moved_later, 
 use Rattle.moves.specs.MovesKept.{standing, d_of, level_of, before, after, Low, Entry, d_of_lem, level_of_lem, before_move, after_move}
 use Rattle.rules.specs.Group.{level, changed, charged, Item, direct_mwh, incremental_mwh, direct_cost, incremental_cost, Amount, less, amount}
 use Rattle.rules.specs.Hour.{items}
+use Rattle.moves.specs.declared.Taken.{Taken}
 use Rattle.rules.specs.Units.{cost}
 use Rattle.rules.specs.declared.Plant.{Plant}
 use Rattle.rules.specs.declared.Running.{Running}
@@ -36,6 +37,10 @@ between e d l d' l' incremental_cost = less (cost e.plant l) (cost e.plant l')
 -- the amounts that an entry tells
 abbrev pub told : Running → ℕ → Item → Amount
 told e x item = between e (d_of (before x)) (level_of (before x)) (d_of (after x)) (level_of (after x)) item
+
+-- an amount, as code has it
+abbrev pub amount_of : Taken → Amount
+amount_of a = record { minus = a.minus; size = a.size }
 
 -- the item at a place of a pair's cells
 abbrev pub item_at : ℕ → Item

@@ -1,20 +1,15 @@
 -- The lines of a file's records as what is written one after another, and how long they are at most.
-use Rattle.std.specs.Prelude.{◌≡◌, true, ◌&&◌, List, [], ◌∷◌, ◌++◌, ℕ, ◌+◌, ◌*◌, ◌≤◌, eqb, ℤ, length, take, drop}
+use Rattle.std.specs.Prelude.{◌≡◌, true, ◌&&◌, List, [], ◌∷◌, ◌++◌, ℕ, ◌+◌, ◌*◌, ◌≤◌, eqb, ℤ, length, drop}
 use Rattle.std.proofs.Common.{ap, sym, ◌∙◌, append_assoc, arith, length-append, eqb-true, leb-true, to_z-of_z, SFits}
 use Rattle.std.specs.Int.{w64}
 use Rattle.rules.specs.Words.{text}
-use Rattle.rules.specs.Fields.{Field, got, malformed, escape, is_label, Chars}
-use Rattle.rules.specs.Record.{chars}
+use Rattle.rules.specs.Fields.{escape, is_label, Chars}
 use Rattle.rules.specs.Report as report
 use Rattle.rules.specs.Report.{ReportLine, hour, pair, internal, end, refusal, signed_text, label_text, amounts_text}
 use Rattle.rules.specs.Spreadsheet.{hour_count, pair_count, open_count, fits64, all_fit, amounts_fit, line_fits}
 use Rattle.laws.specs.Choices.{false_not_true, both_true}
 use Rattle.roundtrip.specs.DeckFits.{escape_most}
 use Rattle.roundtrip.specs.Labels.{label_from_lem}
-use Rattle.read_records.specs.Answers.{line_of, field_of}
-use Rattle.read_records.specs.declared.Record.{Record}
-use Rattle.read_records.specs.declared.RecordKind.{RecordKind}
-use Rattle.read_records.specs.declared.RecordKind.TheVariants.{Delivery}
 use Rattle.write_fields.specs.Inked as inked
 use Rattle.write_fields.specs.Inked.{Text}
 use Rattle.write_fields.specs.Texts.{quoted_text}
@@ -28,16 +23,6 @@ source_text s zs rest = quoted_text s (spaced_amounts zs (10 ∷ rest))
 
 abbrev pub pair_text : Chars → ℤ → Chars → List ℤ → Text
 pair_text d n s zs rest = quoted_text d (spaced_amounts (n ∷ []) (32 ∷ source_text s zs rest))
-
--- the line that was found at a place
-abbrev pub text_of : Field ReportLine → Text
-text_of (got l p) rest = printed l rest
-text_of malformed rest = rest
-
--- of a record that is of a kind
-pub kind_text : (x : Record) (kind : RecordKind) → x.kind ≡ kind → (rest : List ℕ)
-    → text_of (line_of kind x.delivery x.number x.source x.amounts x.next) rest ≡ text_of (field_of x) rest
-kind_text x kind e rest = ap (λ (y : RecordKind). text_of (line_of y x.delivery x.number x.source x.amounts x.next) rest) (sym e)
 
 -- no line has more bytes
 abbrev pub most_line : ℕ
@@ -72,10 +57,6 @@ pair_made d n s zs rest =
 -- a delivery's number as it is held
 pub number_held : (z : ℤ) → SFits w64 z → (rest : List ℕ) → spaced_amounts (held z ∷ []) rest ≡ spaced_amounts (z ∷ []) rest
 number_held z h rest = ap (λ (y : ℤ). spaced_amounts (y ∷ []) rest) (to_z-of_z h)
-
-pub pair_held : (x : Record) → x.kind ≡ Delivery → held x.number ≡ x.number → (rest : List ℕ)
-    → printed (pair (chars x.delivery) (held x.number) (chars x.source) (take pair_count x.amounts)) rest ≡ text_of (field_of x) rest
-pair_held x k e rest = ap (λ (z : ℤ). printed (pair (chars x.delivery) z (chars x.source) (take pair_count x.amounts)) rest) e ∙ kind_text x Delivery k rest
 
 -- Lengths.
 

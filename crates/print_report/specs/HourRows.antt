@@ -1,5 +1,5 @@
 -- What the writer of an hour's report is given, and that the rows it writes are the report.
-use Rattle.std.specs.Prelude.{◌≡◌, refl, ℤ, pos, length, get_or}
+use Rattle.std.specs.Prelude.{◌≡◌, refl, ℤ, pos, length, get_or, Ok}
 use Rattle.std.proofs.Common.{ap, ◌∙◌, arith, lt-ltb}
 use mathlib.Core.List.{List, [], ◌∷◌}
 use Prim.Native.Nat.{ℕ, ◌+◌, ◌*◌, ◌<◌}
@@ -29,7 +29,7 @@ use Rattle.print_report.specs.Rows.{Held, ShortLabels, part_at, head_at, pair_at
 -- a deck that was scanned, and its hour's keys and cells
 pub record Answered (deck : List ℕ) (x : ScannedDeck) (ks : List Key) (cells : List ℤ) : Type 0 where
   pub read : reading deck ≡ accepted x.hour
-  pub scanned : Scanned deck (accepted x.hour) x
+  pub scanned : Scanned deck (accepted x.hour) (Ok x)
   pub hour : hour_cells.Answered x.hour ks cells
 
 -- the rows, before any rest

@@ -1,4 +1,5 @@
 -- What a scan and a reconstruction tell of a deck's report, and what printing it comes to.
+use Rattle.std.specs.Prelude.{Ok, Err}
 use Rattle.std.specs.Prelude.{◌≡◌, List, [], ◌++◌, ℕ, ◌≤◌, ◌<◌, ℤ, length, drop}
 use Rattle.std.proofs.Common.{ap, sym, arith}
 use Rattle.rules.specs.Refusals.{accepted, refused, number_of, place_of}
@@ -13,9 +14,8 @@ use Rattle.rules.specs.declared.Key.{Key}
 use Rattle.rules.specs.declared.Refusal.{Refusal}
 use Rattle.rules.specs.Answers.{written_of}
 use Rattle.rules.specs.declared.Refusal.TheVariants.{Short}
-use Rattle.rules.specs.declared.Verdict.TheVariants.{Accepted, Refused}
-use Rattle.rules.specs.declared.Written.TheVariants.{Count, Refused as NotWritten}
-use Rattle.deck.specs.Answers.{read_accepted, read_refused, Scanned}
+use Rattle.laws.specs.Answers.{answer_accepted, answer_refused}
+use Rattle.deck.specs.Answers.{Scanned}
 use Rattle.deck.specs.declared.ScannedDeck.{ScannedDeck}
 use Rattle.sequence.specs.Placings.{placings}
 use Rattle.print_lines.specs.Lines.{printed}
@@ -26,23 +26,23 @@ use Rattle.print_report.specs.HourRows.{Answered}
 
 -- What was scanned.
 
-module _ (deck : List ℕ) (x : ScannedDeck) (s : Scanned deck (reading deck) x) where
-  pub scanned_refused : (r : Refusal) → x.verdict ≡ Refused r → reading deck ≡ refused r
-  scanned_refused r v = sym (read_refused (reading deck) (record { verdict = x.verdict; hour = x.hour }) r s.answer v)
+module _ (deck : List ℕ) where
+  pub scanned_refused : (r : Refusal) → Scanned deck (reading deck) (Err r) → reading deck ≡ refused r
+  scanned_refused r s = answer_refused (reading deck) r (sym s.answer)
 
-  pub scanned_accepted : x.verdict ≡ Accepted → reading deck ≡ accepted x.hour
-  scanned_accepted v = sym (read_accepted (reading deck) (record { verdict = x.verdict; hour = x.hour }) s.answer v)
+  pub scanned_accepted : (x : ScannedDeck) → Scanned deck (reading deck) (Ok x) → reading deck ≡ accepted x.hour
+  scanned_accepted x s = answer_accepted (reading deck) x.hour (sym s.answer)
 
 -- a deck that is accepted, and its hour's keys
 pub record ReadDeck (deck : List ℕ) (x : ScannedDeck) (ks : List Key) : Type 0 where
   pub read : reading deck ≡ accepted x.hour
-  pub scanned : Scanned deck (accepted x.hour) x
+  pub scanned : Scanned deck (accepted x.hour) (Ok x)
   pub numbered : ks ≡ placings x.hour.deliveries x.hour.ndeliveries
 
-pub read_deck : (deck : List ℕ) (x : ScannedDeck) (ks : List Key) → Scanned deck (reading deck) x → x.verdict ≡ Accepted
+pub read_deck : (deck : List ℕ) (x : ScannedDeck) (ks : List Key) → Scanned deck (reading deck) (Ok x)
     → ks ≡ placings x.hour.deliveries x.hour.ndeliveries → ReadDeck deck x ks
-read_deck deck x ks s v n =
-    let e = scanned_accepted deck x s v in
+read_deck deck x ks s n =
+    let e = scanned_accepted deck x s in
     record { read = e; scanned = rw e at s; numbered = n }
 
 pub run_answered : (deck : List ℕ) (x : ScannedDeck) (ks : List Key) (cells : List ℤ) → ReadDeck deck x ks → Run x.hour cells → Answered deck x ks cells
@@ -66,11 +66,11 @@ unfolding calls.reporting
 reported deck w size e = ap (into size) e
 
 pub report_short : (deck out : List ℕ) (n : ℕ) → n ≡ length (report deck) → length out < n
-    → (NotWritten Short ≡ written_of (reporting deck (length out))) × (out ≡ leaves (reporting deck (length out)) out)
+    → (Err Short ≡ written_of (reporting deck (length out))) × (out ≡ leaves (reporting deck (length out)) out)
 unfolding calls.reporting
 report_short deck out n e l = into_short (report deck) out (omega arith)
 
 pub report_whole : (deck out after : List ℕ) (n : ℕ) → length (report deck) ≤ length out → n ≡ length (report deck) → after ≡ report deck ++ drop (length (report deck)) out
-    → (Count n ≡ written_of (reporting deck (length out))) × (after ≡ leaves (reporting deck (length out)) out)
+    → (Ok n ≡ written_of (reporting deck (length out))) × (after ≡ leaves (reporting deck (length out)) out)
 unfolding calls.reporting
 report_whole deck out after n l e d = into_whole (report deck) out n after l e d

@@ -8,7 +8,7 @@ use Rattle.rules.specs.Report.{pair_amounts, open_amounts}
 use Rattle.rules.specs.declared.InternalSequence.{InternalSequence}
 use Rattle.rules.specs.declared.Key.{Key}
 use Rattle.deck.specs.Answers.{nowhere, bytes_of}
-use Rattle.deck.specs.declared.Place.{Place}
+use Rattle.read_fields.specs.declared.Place.{Place}
 use Rattle.write_fields.specs.Inked.{Text, Room, Front, up_to, front_up_to}
 use Rattle.write_fields.specs.Lengths.{digits_few}
 use Rattle.print_lines.specs.Lines.{head_text, line_text, open_text, front_line}

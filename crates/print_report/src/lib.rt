@@ -20,7 +20,7 @@ use deck::{Place, ScannedDeck};
 use hour_lines::{FEW_CELLS, MOST_CELLS};
 use moves::PAIR_CELLS;
 use reconstruct::OPEN_CELLS;
-use rules::{Key, Refusal, Verdict, Written};
+use rules::{Key, Refusal};
 
 // Room for what all lines of a delivery begin with.
 const MOST_HEAD: usize = 64;
@@ -43,13 +43,11 @@ fn put_row(
     ensures { Inked buf.old at buf.new result (row_text deck.now sources n cells.now base head.now) }
 {
     let mut p = at;
-    let mut i: usize = 0;
-    while i < n {
+    for i in 0..n {
         let place = sources[i];
         let source = deck::part_at(deck, place);
         let amounts = hour_lines::pair_amounts_at(cells, base + i * PAIR_CELLS);
         p = print_lines::put_line(buf, p, head, source, &amounts);
-        i += 1;
     }
     p
 }
@@ -70,8 +68,7 @@ fn put_rows(
     ensures { Inked buf.old at buf.new result (up_to (row_at deck.now sources n deliveries keys cells.now) m) }
 {
     let mut p = at;
-    let mut j: usize = 0;
-    while j < m {
+    for j in 0..m {
         let place = deliveries[j];
         let delivery = deck::part_at(deck, place);
         let x = keys[j];
@@ -87,7 +84,6 @@ fn put_rows(
             j * (n * PAIR_CELLS),
             &head[0..k],
         );
-        j += 1;
     }
     p
 }
@@ -106,13 +102,11 @@ fn put_opens(
     ensures { Inked buf.old at buf.new result (up_to (open_at deck.now sources cells.now base) n) }
 {
     let mut p = at;
-    let mut i: usize = 0;
-    while i < n {
+    for i in 0..n {
         let place = sources[i];
         let source = deck::part_at(deck, place);
         let amounts = hour_lines::open_amounts_at(cells, base + i * OPEN_CELLS);
         p = print_lines::put_open(buf, p, source, &amounts);
-        i += 1;
     }
     p
 }
@@ -151,13 +145,11 @@ fn row_length(
     ensures { result ≡ length (row_text deck.now sources n cells.now base head.now []) }
 {
     let mut size: usize = 0;
-    let mut i: usize = 0;
-    while i < n {
+    for i in 0..n {
         let place = sources[i];
         let source = deck::part_at(deck, place);
         let amounts = hour_lines::pair_amounts_at(cells, base + i * PAIR_CELLS);
         size += print_lines::line_length(head, source, &amounts);
-        i += 1;
     }
     size
 }
@@ -175,15 +167,13 @@ fn rows_length(
     ensures { result ≡ length (up_to (row_at deck.now sources n deliveries keys cells.now) m []) }
 {
     let mut size: usize = 0;
-    let mut j: usize = 0;
-    while j < m {
+    for j in 0..m {
         let place = deliveries[j];
         let delivery = deck::part_at(deck, place);
         let x = keys[j];
         let mut head = [0u8; MOST_HEAD];
         let k = print_lines::put_head(&mut head, 0, delivery, x.number);
         size += row_length(deck, sources, n, cells, j * (n * PAIR_CELLS), &head[0..k]);
-        j += 1;
     }
     size
 }
@@ -193,13 +183,11 @@ fn opens_length(deck: &[u8], sources: [Place; 32], n: usize, cells: &[i64], base
     ensures { result ≡ length (up_to (open_at deck.now sources cells.now base) n []) }
 {
     let mut size: usize = 0;
-    let mut i: usize = 0;
-    while i < n {
+    for i in 0..n {
         let place = sources[i];
         let source = deck::part_at(deck, place);
         let amounts = hour_lines::open_amounts_at(cells, base + i * OPEN_CELLS);
         size += print_lines::open_length(source, &amounts);
-        i += 1;
     }
     size
 }
@@ -223,26 +211,32 @@ fn hour_length(deck: &[u8], x: ScannedDeck, keys: [Key; 32], cells: &[i64]) -> u
 }
 
 // A refusal's line into a lent buffer: nothing changed where that is too short.
-fn hand_refusal(out: &mut [u8], x: Refusal) -> Written
+fn hand_refusal(out: &mut [u8], x: Refusal) -> Result<usize, Refusal>
     ensures outcome { result ≡ written_of (into (length out.old) (printed (refusal (number_of x) (place_of x)) [])) }
     ensures bytes { out.new ≡ leaves (into (length out.old) (printed (refusal (number_of x) (place_of x)) [])) out.old }
 {
     if out.len() < print_lines::refusal_length(x) {
-        return Written::Refused(Refusal::Short);
+        return Err(Refusal::Short);
     }
-    Written::Count(print_lines::put_refusal(out, 0, x))
+    Ok(print_lines::put_refusal(out, 0, x))
 }
 
 // An hour's report into a lent buffer that may be too short for it.
-fn hand_hour(out: &mut [u8], deck: &[u8], x: ScannedDeck, keys: [Key; 32], cells: &[i64]) -> Written
+fn hand_hour(
+    out: &mut [u8],
+    deck: &[u8],
+    x: ScannedDeck,
+    keys: [Key; 32],
+    cells: &[i64],
+) -> Result<usize, Refusal>
     requires { Answered deck.now x keys cells.now }
     ensures outcome { result ≡ written_of (reporting deck.now (length out.old)) }
     ensures bytes { out.new ≡ leaves (reporting deck.now (length out.old)) out.old }
 {
     if out.len() < hour_length(deck, x, keys, cells) {
-        return Written::Refused(Refusal::Short);
+        return Err(Refusal::Short);
     }
-    Written::Count(put_hour(out, deck, x, keys, cells))
+    Ok(put_hour(out, deck, x, keys, cells))
 }
 
 // The report of a deck that was read, of what its reconstruction answered and left in the cells.
@@ -251,35 +245,33 @@ fn print_answer(
     deck: &[u8],
     x: ScannedDeck,
     keys: [Key; 32],
-    end: Written,
+    end: Result<usize, Refusal>,
     cells: &[i64],
-) -> Written
+) -> Result<usize, Refusal>
     requires { ReadDeck deck.now x keys × Ended x.hour end cells.now }
     ensures outcome { result ≡ written_of (reporting deck.now (length out.old)) }
     ensures bytes { out.new ≡ leaves (reporting deck.now (length out.old)) out.old }
 {
-    if let Written::Refused(r) = end {
+    if let Err(r) = end {
         return hand_refusal(out, r);
     }
     if out.len() < MOST_REPORT {
         return hand_hour(out, deck, x, keys, cells);
     }
-    Written::Count(put_hour(out, deck, x, keys, cells))
+    Ok(put_hour(out, deck, x, keys, cells))
 }
 
 // The report of a deck into a lent buffer: nothing changed where that is too short.
-pub fn report(deck: &[u8], out: &mut [u8]) -> Written
+pub fn report(deck: &[u8], out: &mut [u8]) -> Result<usize, Refusal>
     ensures outcome { result ≡ written_of (reporting deck.now (length out.old)) }
     ensures bytes { out.new ≡ leaves (reporting deck.now (length out.old)) out.old }
 {
-    let x = deck::scan(deck);
-    let verdict = x.verdict;
-    if let Verdict::Refused(r) = verdict {
-        return hand_refusal(out, r);
-    }
+    let x = match deck::scan(deck) {
+        Ok(x) => x,
+        Err(r) => return hand_refusal(out, r),
+    };
     let h = x.hour;
-    let deliveries = h.deliveries;
-    let keys = sequence::keys(deliveries, h.ndeliveries);
+    let keys = sequence::keys(&h.deliveries, h.ndeliveries);
     let count = h.ndeliveries * (h.nsources * PAIR_CELLS) + h.nsources * OPEN_CELLS;
     if count <= FEW_CELLS {
         let mut cells = [0i64; FEW_CELLS];

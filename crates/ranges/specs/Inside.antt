@@ -1,5 +1,5 @@
 -- Document 01, "number outside its range" (3), of the numbers that an entry holds.
-use Rattle.std.specs.Prelude.{Bool, ◌&&◌, [], ℕ}
+use Rattle.std.specs.Prelude.{Bool, ◌&&◌, [], ℕ, Option, Some, None}
 use Rattle.rules.specs.Words.{when◌then◌else◌}
 use Rattle.rules.specs.Ranges.{inside, unit_level}
 use Rattle.rules.specs.Lines.{H, T, D, fields_of, ranged}
@@ -10,8 +10,6 @@ use Rattle.rules.specs.declared.Plant.TheVariants.{Unit as U}
 use Rattle.rules.specs.declared.Basis.{Basis}
 use Rattle.roundtrip.specs.Lines.{line_ranged}
 use Rattle.ranges.specs.declared.UnitNumbers.{UnitNumbers}
-use Rattle.ranges.specs.declared.JudgedUnit.{JudgedUnit}
-use Rattle.ranges.specs.declared.JudgedUnit.TheVariants.{Inside, Outside}
 
 -- the numbers of a source, a T line and a D line
 unfoldable pub plant_inside : Plant → Bool
@@ -37,5 +35,5 @@ abbrev pub unit_made : UnitNumbers → Unit
 unit_made x = record { g = x.g; h = x.h; n = x.n; o = x.o; e = x.e; curve = record { k = x.k; a = x.a; b = x.b; c = x.c; r = x.r } }
 
 -- that unit, where every number is in its range
-abbrev pub judged : UnitNumbers → JudgedUnit
-judged x = when plant_inside (U (unit_made x)) then Inside (unit_made x) else Outside
+abbrev pub judged : UnitNumbers → Option Unit
+judged x = when plant_inside (U (unit_made x)) then Some (unit_made x) else None

@@ -8,35 +8,35 @@ ghost use Rattle.rules.specs.Lines.{basis_inside};
 ghost use Rattle.rules.specs.declared.Plant.TheVariants.{Unit as U, Purchase as P, Fixed as F};
 ghost use Rattle.ranges.specs.Inside.{levels_inside, plant_inside, judged, delivery_inside, direct_inside, losses_inside};
 
-use rules::{Basis, CurveAnswer, HeatCurve, Plant, Unit};
+use rules::{Basis, HeatCurve, Plant, Unit};
 
-const MOST_LOSSES: u32 = 64_000;
+pub const MOST_LOSSES: u32 = 64_000;
 
-const LEAST_LEVEL: u32 = 1;
+pub const LEAST_LEVEL: u32 = 1;
 
-const MOST_LEVEL: u32 = 2000;
+pub const MOST_LEVEL: u32 = 2000;
 
-const MOST_ENERGY: u32 = 2000;
+pub const MOST_ENERGY: u32 = 2000;
 
-const MOST_PURCHASE_RATE: u32 = 999_999;
+pub const MOST_PURCHASE_RATE: u32 = 999_999;
 
-const MOST_SEQUENCE: u32 = 99;
+pub const MOST_SEQUENCE: u32 = 99;
 
-const LEAST_TYPE: u32 = 1;
+pub const LEAST_TYPE: u32 = 1;
 
-const MOST_TYPE: u32 = 9;
+pub const MOST_TYPE: u32 = 9;
 
-const LEAST_BLOCK: u32 = 1;
+pub const LEAST_BLOCK: u32 = 1;
 
-const MOST_BLOCK: u32 = 9;
+pub const MOST_BLOCK: u32 = 9;
 
-const LEAST_BASIS: u32 = 1;
+pub const LEAST_BASIS: u32 = 1;
 
-const MOST_BASIS: u32 = 1999;
+pub const MOST_BASIS: u32 = 1999;
 
-const LEAST_PERCENT: u32 = 1;
+pub const LEAST_PERCENT: u32 = 1;
 
-const MOST_PERCENT: u32 = 100;
+pub const MOST_PERCENT: u32 = 100;
 
 // The ten numbers of a unit's line, as they were read.
 #[derive(Clone, Copy)]
@@ -53,20 +53,10 @@ pub struct UnitNumbers {
     pub r: u32,
 }
 
-// The unit that they make, or that one is outside its range.
-#[derive(Clone, Copy)]
-pub enum JudgedUnit {
-    Inside(Unit),
-    Outside,
-}
-
 fn within(least: u32, most: u32, x: u32) -> bool
     ensures { result ≡ inside (least to most) x }
 {
-    if x < least {
-        return false;
-    }
-    x <= most
+    least <= x && x <= most
 }
 
 fn up_to(most: u32, x: u32) -> bool
@@ -84,32 +74,19 @@ fn is_level(x: u32) -> bool
 fn levels_in_range(g: u32, h: u32, n: u32, o: u32, e: u32) -> bool
     ensures { result ≡ levels_inside g h n o e }
 {
-    if !is_level(g) {
-        return false;
-    }
-    if !is_level(h) {
-        return false;
-    }
-    if !is_level(n) {
-        return false;
-    }
-    if !is_level(o) {
-        return false;
-    }
-    is_level(e)
+    is_level(g) && is_level(h) && is_level(n) && is_level(o) && is_level(e)
 }
 
 // A unit only of numbers that are in their ranges: the levels here, the curve's by the curve.
-pub fn judge_unit(x: UnitNumbers) -> JudgedUnit
+#[tactic(auto, unfolding(rules::specs::Lines::ranged, crate::specs::Inside::plant_inside))]
+pub fn judge_unit(x: UnitNumbers) -> Option<Unit>
     ensures { result ≡ judged x }
 {
     if !levels_in_range(x.g, x.h, x.n, x.o, x.e) {
-        return JudgedUnit::Outside;
+        return None;
     }
-    let CurveAnswer::Made(curve) = HeatCurve::new(x.k, x.a, x.b, x.c, x.r) else {
-        return JudgedUnit::Outside;
-    };
-    JudgedUnit::Inside(Unit {
+    let curve = HeatCurve::new(x.k, x.a, x.b, x.c, x.r).ok()?;
+    Some(Unit {
         g: x.g,
         h: x.h,
         n: x.n,
@@ -119,35 +96,25 @@ pub fn judge_unit(x: UnitNumbers) -> JudgedUnit
     })
 }
 
+#[tactic(auto, unfolding(rules::specs::Lines::ranged, crate::specs::Inside::plant_inside))]
 fn unit_in_range(u: Unit) -> bool
     ensures { result ≡ plant_inside (U u) }
 {
-    if !levels_in_range(u.g, u.h, u.n, u.o, u.e) {
-        return false;
-    }
-    let c = u.curve;
-    c.is_inside()
+    levels_in_range(u.g, u.h, u.n, u.o, u.e) && u.curve.is_inside()
 }
 
+#[tactic(auto, unfolding(rules::specs::Lines::ranged, crate::specs::Inside::plant_inside))]
 fn purchase_in_range(g: u32, rate: u32) -> bool
     ensures { result ≡ plant_inside (P g rate) }
 {
-    if !up_to(MOST_ENERGY, g) {
-        return false;
-    }
-    if !up_to(MOST_PURCHASE_RATE, rate) {
-        return false;
-    }
-    true
+    up_to(MOST_ENERGY, g) && up_to(MOST_PURCHASE_RATE, rate)
 }
 
+#[tactic(auto, unfolding(rules::specs::Lines::ranged, crate::specs::Inside::plant_inside))]
 fn fixed_in_range(g: u32) -> bool
     ensures { result ≡ plant_inside (F g) }
 {
-    if !up_to(MOST_ENERGY, g) {
-        return false;
-    }
-    true
+    up_to(MOST_ENERGY, g)
 }
 
 // The same of a plant at hand.
@@ -161,51 +128,35 @@ pub fn plant_in_range(p: Plant) -> bool
     }
 }
 
+#[tactic(auto, unfolding(rules::specs::Lines::ranged, crate::specs::Inside::delivery_inside))]
 pub fn delivery_in_range(sequence: u32, kind: u32, block: u32, mwh: u32) -> bool
     ensures { result ≡ delivery_inside sequence kind block mwh }
 {
-    if !up_to(MOST_SEQUENCE, sequence) {
-        return false;
-    }
-    if !within(LEAST_TYPE, MOST_TYPE, kind) {
-        return false;
-    }
-    if !within(LEAST_BLOCK, MOST_BLOCK, block) {
-        return false;
-    }
-    if !up_to(MOST_ENERGY, mwh) {
-        return false;
-    }
-    true
+    up_to(MOST_SEQUENCE, sequence)
+        && within(LEAST_TYPE, MOST_TYPE, kind)
+        && within(LEAST_BLOCK, MOST_BLOCK, block)
+        && up_to(MOST_ENERGY, mwh)
 }
 
 fn basis_in_range(b: Basis) -> bool
     ensures { result ≡ basis_inside basis_mwh b }
 {
     match b {
-        Basis::Low => true,
-        Basis::Generation => true,
+        Basis::Low | Basis::Generation => true,
         Basis::Mwh(v) => within(LEAST_BASIS, MOST_BASIS, v),
     }
 }
 
+#[tactic(auto, unfolding(rules::specs::Lines::ranged, crate::specs::Inside::direct_inside))]
 pub fn direct_in_range(b: Basis, percent: u32) -> bool
     ensures { result ≡ direct_inside b percent }
 {
-    if !basis_in_range(b) {
-        return false;
-    }
-    if !within(LEAST_PERCENT, MOST_PERCENT, percent) {
-        return false;
-    }
-    true
+    basis_in_range(b) && within(LEAST_PERCENT, MOST_PERCENT, percent)
 }
 
+#[tactic(auto, unfolding(rules::specs::Lines::ranged, crate::specs::Inside::losses_inside))]
 pub fn losses_in_range(losses: u32) -> bool
     ensures { result ≡ losses_inside losses }
 {
-    if !up_to(MOST_LOSSES, losses) {
-        return false;
-    }
-    true
+    up_to(MOST_LOSSES, losses)
 }

@@ -1,92 +1,78 @@
 -- The steps of reading a label in a part.
-use mathlib.Core.Path.{◌≡◌, refl, ap, sym, ◌∙◌}
-use mathlib.Core.Bool.{Bool, true, false, ◌||◌}
+use Rattle.std.specs.Prelude.{Option, Some, option_map, option_and_then}
+use Rattle.std.proofs.lemmas.Bool.Decides.{nat_tests}
+use Rattle.rules.specs.Words.{when◌then◌else◌}
+use mathlib.Core.Path.{◌≡◌, refl}
+use mathlib.Core.Bool.{Bool, true, false}
 use mathlib.Core.List.{List, [], ◌∷◌}
-use mathlib.Core.Option.{Option, none, some}
+use mathlib.Core.Option as math
+use mathlib.Core.Option.{none, some}
 use Prim.Native.Nat.{ℕ, ◌+◌, ◌-◌, ◌<◌, ◌≤◌}
 use native.Mathlib.Numerals.{add-one}
 use native.Mathlib.Omega.{arith}
 use lib.Dec.{eqb}
-use lib.Seq.{drop-cons}
-use lib.ListN.{length, take, drop, length-drop, drop_of_length-le}
-use borrow.Author.Tests.{eq-eqb, ne_eqb, eqb-true}
+use lib.ListN.{length, take, drop, length-drop}
 use Rattle.rules.specs.Fields as fields
-use Rattle.rules.specs.Fields.{byte, is_character, is_escaped, closed, closing, label_end}
-use Rattle.laws.specs.Lists.{get_d_first}
+use Rattle.rules.specs.Fields.{Field, got, malformed, on_field, byte, byte_at, is_character, is_escaped, closed, closing, label_end, label_from, spaced_label}
 use Rattle.roundtrip.specs.Labels.{label_within}
-use Rattle.read_fields.specs.Answers.{end_of}
-use Rattle.read_fields.specs.declared.LabelEnd.TheVariants.{Closed, Unclosed}
-use Rattle.read_fields.proofs.Bytes.{drop_byte, part_rest}
+use Rattle.read_fields.specs.Answers.{step_of, end_of, label_field}
+use Rattle.read_fields.proofs.Bytes.{part_rest}
 
-pub escaped_inside : (b : ℕ) → is_escaped b ≡ true → 0 < b
-escaped_inside b e = go (eqb b 34) refl e
-  where
-    go : (p : Bool) → eqb b 34 ≡ p → (p || eqb b 92) ≡ true → 0 < b
-    go true q e = omega (arith, eqb-true b 34 q)
-    go false q e = omega (arith, eqb-true b 92 e)
-
-pub label_quoted : (s : List ℕ) → byte s 0 ≡ 34 → closing false 0 1 (drop 1 s) ≡ label_end s
+pub label_first : (b : ℕ) (t : List ℕ) → label_end (b ∷ t) ≡ (when eqb b 34 then closing false 0 1 t else none)
 unfolding fields.label_end
-label_quoted [] h = absurd (omega arith)
-label_quoted (b ∷ t) h = rw (eq-eqb b 34 h)
+label_first b t = refl
 
-pub label_unquoted : (s : List ℕ) → (byte s 0 ≡ 34 → ⊥) → label_end s ≡ none
+pub label_none : (l : List ℕ) → length l ≡ 0 → label_end l ≡ none
 unfolding fields.label_end
-label_unquoted [] h = refl
-label_unquoted (b ∷ t) h = rw (ne_eqb b 34 h)
+label_none [] h = refl
+label_none (b ∷ t) h = absurd (omega arith)
 
-module _ (s : List ℕ) (n i : ℕ) where
-  pub closing_end : length s ≤ i → closing false n i (drop i s) ≡ none
+module _ (n i : ℕ) where
+  pub closing_none : (e : Bool) (l : List ℕ) → length l ≡ 0 → closing e n i l ≡ none
   unfolding fields.closing
-  closing_end h = rw drop_of_length-le
+  closing_none true [] h = refl
+  closing_none false [] h = refl
+  closing_none e (b ∷ t) h = absurd (omega arith)
 
-  pub quote_closes : byte s i ≡ 34 → closing false n i (drop i s) ≡ closed n i
+  -- one byte more, and one after a backslash
+  pub closing_more : (b : ℕ) (t : List ℕ) → closing false n i (b ∷ t)
+      ≡ (when eqb b 34 then closed n i else
+      when eqb b 92 then closing true n (i + 1) t else
+      when is_character b then closing false (n + 1) (i + 1) t else none)
   unfolding fields.closing
-  quote_closes q = rw (drop_byte s i (omega arith), q)
+  closing_more b t = rw (add-one n, add-one i)
 
-  -- a backslash, and what comes after it
-  backslash : byte s i ≡ 92 → closing false n i (drop i s) ≡ closing true n (i + 1) (drop (i + 1) s)
+  pub closing_escaped : (b : ℕ) (t : List ℕ) → closing true n i (b ∷ t) ≡ (when is_escaped b then closing false (n + 1) (i + 1) t else none)
   unfolding fields.closing
-  backslash q = rw (drop_byte s i (omega arith), q, add-one i)
+  closing_escaped b t = rw (add-one n, add-one i)
 
-  pub escaped_more : byte s i ≡ 92 → is_escaped (byte s (i + 1)) ≡ true → closing false n i (drop i s) ≡ closing false (n + 1) (i + 2) (drop (i + 2) s)
-  unfolding fields.closing
-  escaped_more q e =
-      let k : i + 2 ≡ i + 1 + 1 = omega arith in
-      backslash q ∙ rw (k, drop_byte s (i + 1) (escaped_inside (byte s (i + 1)) e), e, add-one n, add-one (i + 1))
+pub ruleset label_steps = (label_first, label_none, closing_none, closing_more, closing_escaped, nat_tests)
 
-  pub escaped_none : byte s i ≡ 92 → is_escaped (byte s (i + 1)) ≡ false → closing false n i (drop i s) ≡ none
-  unfolding fields.closing
-  escaped_none q e = backslash q ∙ go (drop (i + 1) s) refl
-    where
-      go : (l : List ℕ) → drop (i + 1) s ≡ l → closing true n (i + 1) l ≡ none
-      go [] w = refl
-      go (b ∷ t) w = rw (sym (ap is_escaped (get_d_first s (b ∷ t) (i + 1) 0 w)) ∙ e)
-
-  module _ (h : i < length s) (not_quote : byte s i ≡ 34 → ⊥) (not_backslash : byte s i ≡ 92 → ⊥) where
-    pub character_more : is_character (byte s i) ≡ true → closing false n i (drop i s) ≡ closing false (n + 1) (i + 1) (drop (i + 1) s)
-    unfolding fields.closing
-    character_more k = rw (drop-cons s i 0, ne_eqb (byte s i) 34 not_quote, ne_eqb (byte s i) 92 not_backslash, k, add-one n, add-one i)
-
-    pub character_none : is_character (byte s i) ≡ false → closing false n i (drop i s) ≡ none
-    unfolding fields.closing
-    character_none k = rw (drop-cons s i 0, ne_eqb (byte s i) 34 not_quote, ne_eqb (byte s i) 92 not_backslash, k)
-
--- of the label reader's answer on the part from d on
+-- the label reader's answer on the part from d on
 module _ (s : List ℕ) (d : ℕ) where
-  pub part_closed : (z : ℕ) → end_of (label_end (take (length s - d) (drop d s))) ≡ Closed z → label_end (drop d s) ≡ some z
-  part_closed z e = go (label_end (drop d s)) (sym (ap (λ (l : List ℕ). end_of (label_end l)) (part_rest s d)) ∙ e)
-    where
-      go : (x : Option ℕ) → end_of x ≡ Closed z → x ≡ some z
-      go (some y) e = let k : y ≡ z = cc in ap some k
-      go none e = let w : ◌≡◌ {A = ℕ} 0 1 = cc in absurd (omega arith)
+  abbrev pub end_after : Option ℕ
+  end_after = end_of (label_end (take (length s - d) (drop d s)))
 
-  pub part_unclosed : end_of (label_end (take (length s - d) (drop d s))) ≡ Unclosed → label_end (drop d s) ≡ none
-  part_unclosed e = go (label_end (drop d s)) (sym (ap (λ (l : List ℕ). end_of (label_end l)) (part_rest s d)) ∙ e)
+  pub end_inside : (z : ℕ) → d ≤ length s → end_after ≡ Some z → d + z < length s
+  end_inside z h e = go (label_end (drop d s)) refl (rw part_rest at e)
     where
-      go : (x : Option ℕ) → end_of x ≡ Unclosed → x ≡ none
-      go (some y) e = let w : ◌≡◌ {A = ℕ} 0 1 = cc in absurd (omega arith)
-      go none e = refl
+      go : (x : math.Option ℕ) → label_end (drop d s) ≡ x → end_of x ≡ Some z → d + z < length s
+      go (some y) le e = let k : y ≡ z = cc in omega (arith, label_within (drop d s) y le, length-drop d s)
+      go none le e = cc
 
-  pub part_inside : (z : ℕ) → d ≤ length s → label_end (drop d s) ≡ some z → d + z < length s
-  part_inside z h e = omega (arith, label_within (drop d s) z e, length-drop d s)
+-- a label after its space, told from the label reader's answer
+pub label_told : (s : List ℕ) (at : ℕ)
+    → label_field (spaced_label s at)
+    ≡ option_and_then (λ d. option_map (λ z. (record { from = d + 1; upto = d + z }, d + z + 1)) (end_after s d)) (step_of (byte_at s at 32))
+unfolding fields.spaced_label
+label_told s at = go (byte_at s at 32)
+  where
+    after : (d : ℕ) (x : math.Option ℕ) → label_field (label_from d x) ≡ option_map (λ z. (record { from = d + 1; upto = d + z }, d + z + 1)) (end_of x)
+    after d (some z) = refl
+    after d none = refl
+
+    go : (f : Field (Unit {0}))
+        → label_field (on_field f λ u d. label_from d (label_end (drop d s)))
+        ≡ option_and_then (λ d. option_map (λ z. (record { from = d + 1; upto = d + z }, d + z + 1)) (end_after s d)) (step_of f)
+    go (got u d) = rw (part_rest s d) (after d (label_end (drop d s)))
+    go malformed = refl

@@ -1,5 +1,4 @@
 -- What belongs to no one function: the steps of the rules' readers at a place.
-pub mod Tests
 pub mod Bytes
 pub mod Numbers
 pub mod Labels

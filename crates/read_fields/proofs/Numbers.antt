@@ -1,26 +1,22 @@
 -- The steps of reading a number or a basis at a place, and that cutting its value on the way changes nothing.
+use Rattle.std.specs.Prelude.{Some, option_map}
 use mathlib.Core.Path.{◌≡◌, refl, ap, sym, ◌∙◌}
-use mathlib.Core.Bool.{Bool, true, false}
+use mathlib.Core.Bool.{Bool, true, false, ◌&&◌}
 use mathlib.Core.List.{List, [], ◌∷◌}
 use Prim.Native.Nat.{ℕ, suc, ◌+◌, ◌-◌, ◌*◌, ◌<◌, ◌≤◌, min}
 use native.Mathlib.Numerals.{add-one}
 use native.Mathlib.Omega.{arith}
-use lib.ListN.{drop}
-use borrow.Author.Tests.{ne_eqb}
+use lib.ListN.{length, drop, drop_of_length-le}
+use borrow.Author.Tests.{ne_eqb, eqb-true}
+use lib.Dec.{eqb}
 use Rattle.rules.specs.Words.{when◌then◌else◌}
 use Rattle.rules.specs.Fields as fields
 use Rattle.rules.specs.Fields.{Field, got, malformed, byte, is_digit, run, number_at, basis_from, basis_at}
 use Rattle.rules.specs.declared.Basis.TheVariants.{Mwh}
 use Rattle.laws.specs.Lists.{get_d_first}
 use Rattle.roundtrip.specs.Numbers.{digit_from}
-use Rattle.read_fields.specs.Answers.{cut, DigitOf, number_field, basis_field}
-use Rattle.read_fields.specs.declared.FirstDigit.{FirstDigit}
-use Rattle.read_fields.specs.declared.FirstDigit.TheVariants.{Digit, Malformed as NoDigit}
-use Rattle.read_fields.specs.declared.NumberField.{NumberField}
-use Rattle.read_fields.specs.declared.NumberField.TheVariants.{Number, Malformed as NoNumber}
-use Rattle.read_fields.specs.declared.BasisField.{BasisField}
-use Rattle.read_fields.specs.declared.BasisField.TheVariants.{Basis as IsBasis, Malformed as NoBasis}
-use Rattle.read_fields.proofs.Bytes.{drop_byte}
+use Rattle.read_fields.specs.Answers.{number_cut, number_field, basis_field}
+use Rattle.read_fields.proofs.Bytes.{drop_byte, byte_inside}
 
 -- Reading on, of an answer that tells numbers only up to a bound.
 
@@ -39,6 +35,9 @@ module _ (s : List ℕ) (at : ℕ) where
   pub digit_inside : is_digit (byte s at) ≡ true → 0 < byte s at
   digit_inside d = omega (arith, (digit_from (byte s at) d).0)
 
+  pub digit_within : is_digit (byte s at) ≡ true → at < length s
+  digit_within d = byte_inside s at (digit_inside d)
+
   module _ (v : ℕ) where
     pub run_stop : is_digit (byte s at) ≡ false → run v at (drop at s) ≡ got v at
     unfolding fields.run
@@ -52,15 +51,20 @@ module _ (s : List ℕ) (at : ℕ) where
     unfolding fields.run
     run_more d = rw (drop_byte s at (digit_inside d), d, add-one at)
 
-    -- the answer where the digits end, and one digit more
-    pub cut_stop : v ≤ 1_000_000 → is_digit (byte s at) ≡ false → Number v at ≡ number_field (run v at (drop at s))
-    cut_stop h d = let k : v ≡ cut v = omega arith in ap (λ (v : ℕ). Number v at) k ∙ ap number_field (sym (run_stop d))
+    -- the answer where the digits end, and where the bytes do, and one digit more
+    module _ (most : ℕ) where
+      pub cut_stop : v ≤ most → is_digit (byte s at) ≡ false → number_cut most (run v at (drop at s)) ≡ Some (v, at)
+      cut_stop h d = let k : min v most ≡ v = omega arith in rw (run_stop d, k)
 
-    pub cut_more : is_digit (byte s at) ≡ true
-        → number_field (run (cut (v * 10 + (byte s at - 48))) (at + 1) (drop (at + 1) s)) ≡ number_field (run v at (drop at s))
-    cut_more d =
-        let w = v * 10 + (byte s at - 48) in
-        run_cut number_field 1_000_000 (λ v w i e. ap (λ (x : ℕ). Number x i) e) (drop (at + 1) s) (cut w) w (at + 1) (omega arith) ∙ ap number_field (sym (run_more d))
+      pub cut_end : v ≤ most → length s ≤ at → number_cut most (run v at (drop at s)) ≡ Some (v, at)
+      unfolding fields.run
+      cut_end h past = let k : min v most ≡ v = omega arith in rw (drop_of_length-le, k)
+
+      pub cut_more : (w : ℕ) → is_digit (byte s at) ≡ true → w ≡ min (v * 10 + (byte s at - 48)) most
+          → number_cut most (run v at (drop at s)) ≡ number_cut most (run w (at + 1) (drop (at + 1) s))
+      cut_more w d e =
+          ap (number_cut most) (run_more d)
+          ∙ run_cut (number_cut most) most (λ v w i e. ap (λ (x : ℕ). Some (x, i)) e) (drop (at + 1) s) (v * 10 + (byte s at - 48)) w (at + 1) (omega arith)
 
 module _ (s : List ℕ) (at : ℕ) where
   pub number_none : is_digit (byte s at) ≡ false → number_at s at ≡ malformed
@@ -79,27 +83,28 @@ module _ (s : List ℕ) (at : ℕ) where
   unfolding fields.number_at
   number_run d z = let k : 0 * 10 + (byte s at - 48) ≡ byte s at - 48 = omega arith in rw (d, ne_eqb (byte s at) 48 z) (run_more s at 0 d ∙ rw k)
 
--- a number told from its first digit, the value v
-module _ (s : List ℕ) (f : Field ℕ) (x : FirstDigit) where
-  pub digit_none : x ≡ NoDigit → DigitOf s f x → malformed ≡ f
-  digit_none e h = rw e at h
+  number_read : is_digit (byte s at) ≡ true → (byte s at ≡ 48 → is_digit (byte s (at + 1)) ≡ false) → number_at s at ≡ run 0 at (drop at s)
+  unfolding fields.number_at
+  number_read d z = rw d (go (eqb (byte s at) 48) refl)
+    where
+      go : (p : Bool) → eqb (byte s at) 48 ≡ p → (when p && is_digit (byte s (at + 1)) then malformed else run 0 at (drop at s)) ≡ run 0 at (drop at s)
+      go true e = rw (z (eqb-true (byte s at) 48 e))
+      go false e = refl
 
-  module _ (d next v : ℕ) (e : x ≡ Digit d next) (k : v ≡ d) where
-    pub digit_few : DigitOf s f x → v ≤ 9
-    digit_few h = let g : DigitOf s f (Digit d next) = rw e at h in omega (arith, g.0)
+  -- the first digit, cut
+  pub cut_first : (most w : ℕ) → is_digit (byte s at) ≡ true → (byte s at ≡ 48 → is_digit (byte s (at + 1)) ≡ false) → w ≡ min (byte s at - 48) most
+      → number_cut most (number_at s at) ≡ number_cut most (run w (at + 1) (drop (at + 1) s))
+  cut_first most w d z e = ap (number_cut most) (number_read d z) ∙ cut_more s at 0 most w d (omega arith)
 
-    pub digit_run : DigitOf s f x → run v next (drop next s) ≡ f
-    digit_run h = let g : DigitOf s f (Digit d next) = rw e at h in ap (λ (v : ℕ). run v next (drop next s)) k ∙ g.1
+pub ruleset number_steps = (number_none, number_zeros, number_zero, number_run, run_stop)
+
+pub ruleset cut_steps = (number_none, number_zeros, cut_first, digit_within, cut_stop, cut_end, cut_more)
 
 -- a basis that is no letter
-abbrev pub number_basis : NumberField → BasisField
-number_basis (Number v next) = IsBasis (Mwh v) next
-number_basis NoNumber = NoBasis
-
-pub basis_number : (s : List ℕ) (at : ℕ) → (byte s at ≡ 76 → ⊥) → (byte s at ≡ 71 → ⊥) → basis_field (basis_at s at) ≡ number_basis (number_field (number_at s at))
+pub basis_number : (s : List ℕ) (at : ℕ) → (byte s at ≡ 76 → ⊥) → (byte s at ≡ 71 → ⊥) → basis_field (basis_at s at) ≡ option_map (λ (v, next). (Mwh v, next)) (number_field (number_at s at))
 unfolding fields.basis_at
 basis_number s at low generation = rw (ne_eqb (byte s at) 76 low, ne_eqb (byte s at) 71 generation) (go (number_at s at))
   where
-    go : (f : Field ℕ) → basis_field (basis_from f) ≡ number_basis (number_field f)
+    go : (f : Field ℕ) → basis_field (basis_from f) ≡ option_map (λ (v, next). (Mwh v, next)) (number_field f)
     go (got v next) = refl
     go malformed = refl

@@ -1,81 +1,41 @@
-// Reads the fields of a deck's line: numbers, bases and labels, each at a place.
-// The contracts cite rules' Fields and Record for what stands in the deck, and Answers for the enum that says it.
+// Reads the fields of a deck's line: numbers, bases and labels, each at a place; where one stands, the answer has it and the place after it.
+// The contracts cite rules' Fields and Record for what stands in the deck, and Answers for how that is answered.
 #![tactic(auto)]
 
-ghost use Rattle.std.specs.Prelude.{◌≡◌, false, ◌≤◌, ◌<◌, length, get_or, drop};
-ghost use Rattle.rules.specs.Fields.{is_digit, is_character, is_escaped, byte_at, run, number_at, closed as closedAt, label_end, unescape, spaced_number, spaced_basis, basis_at, spaced_label};
+ghost use Rattle.std.specs.Prelude.{◌≡◌, false, ◌≤◌, ◌<◌, length, get_or};
+ghost use Rattle.rules.specs.Fields.{is_digit, is_character, is_escaped, byte_at, number_at, label_end, unescape, spaced_number, spaced_basis, basis_at, spaced_label};
 ghost use Rattle.rules.specs.Record.{label_of};
-ghost use Rattle.read_fields.specs.Answers.{cut, step_of, DigitOf, number_field, basis_field, end_of, label_field};
+ghost use Rattle.read_fields.specs.Answers.{step_of, DigitOf, number_cut, number_field, basis_field, end_of, label_field};
 
 use rules::{Basis, Label};
 
-// Whether a byte that must stand at a place does, and the place after it.
+// Where a label's own bytes start and end.
 #[derive(Clone, Copy)]
-pub enum Step {
-    At(usize),
-    Missing,
-}
-
-// A number's first digit, as a number, and the place after it.
-#[derive(Clone, Copy)]
-pub enum FirstDigit {
-    Digit(u8, usize),
-    Malformed,
-}
-
-// A number, cut at CUT, and the place after it.
-#[derive(Clone, Copy)]
-pub enum NumberField {
-    Number(u32, usize),
-    Malformed,
-}
-
-// A basis, its number cut at CUT, and the place after it.
-#[derive(Clone, Copy)]
-pub enum BasisField {
-    Basis(Basis, usize),
-    Malformed,
-}
-
-// The index of a label's closing quote in the part that starts with the opening one.
-#[derive(Clone, Copy)]
-pub enum LabelEnd {
-    Closed(usize),
-    Unclosed,
-}
-
-// Where a label's own bytes start and end, and the place after its closing quote.
-#[derive(Clone, Copy)]
-pub enum LabelField {
-    At(usize, usize, usize),
-    Malformed,
+pub struct Place {
+    pub from: usize,
+    pub upto: usize,
 }
 
 // Above every range.
-const CUT: u32 = 1_000_000;
+const CUT: u64 = 1_000_000;
 
 // The byte at a place; past the end a 0.
 pub fn peek(s: &[u8], at: usize) -> u8
     ensures { result ≡ get_or s.now at 0 }
 {
-    if s.len() <= at {
-        return 0;
-    }
-    s[at]
+    s.get(at).copied().unwrap_or(0)
 }
 
 // One byte, not 0, that must stand at a place.
-pub fn byte(s: &[u8], at: usize, b: u8) -> Step
+#[tactic(auto, using(crate::proofs::Bytes::byte_inside), unfolding(rules::specs::Fields::byte_at))]
+pub fn byte(s: &[u8], at: usize, b: u8) -> Option<usize>
     requires { 0 < b }
     ensures { result ≡ step_of (byte_at s.now at b) }
 {
-    if s.len() <= at {
-        return Step::Missing;
+    if peek(s, at) != b {
+        return None;
     }
-    if s[at] != b {
-        return Step::Missing;
-    }
-    Step::At(at + 1)
+    Some(at + 1)
 }
 
 // Numbers.
@@ -83,109 +43,93 @@ pub fn byte(s: &[u8], at: usize, b: u8) -> Step
 pub fn is_digit(b: u8) -> bool
     ensures { result ≡ is_digit b }
 {
-    if b < b'0' {
-        return false;
-    }
-    if b'9' < b {
-        return false;
-    }
-    true
-}
-
-fn cut_at(v: u32) -> u32
-    ensures { result ≡ cut v }
-{
-    if v < CUT { v } else { CUT }
-}
-
-// internal: a byte as a number
-fn wide(b: u8) -> u32
-    ensures { result ≡ b }
-{
-    b as u32
-}
-
-// internal: the digits from a place on, after the value v
-fn run_on(s: &[u8], at: usize, before: u32) -> NumberField
-    requires { before ≤ 9 }
-    ensures { result ≡ number_field (run before at (drop at s.now)) }
-{
-    let mut v = before;
-    let mut i = at;
-    while i < s.len() {
-        let b = s[i];
-        if !is_digit(b) {
-            return NumberField::Number(v, i);
-        }
-        v = cut_at(v * 10 + wide(b - b'0'));
-        i += 1;
-    }
-    NumberField::Number(v, i)
+    b.is_ascii_digit()
 }
 
 // The first of digits without a leading zero.
-pub fn first_digit(s: &[u8], at: usize) -> FirstDigit
+#[tactic(auto, using(crate::proofs::Numbers::number_steps))]
+pub fn first_digit(s: &[u8], at: usize) -> Option<(u8, usize)>
     ensures { DigitOf s.now (number_at s.now at) result }
 {
     let first = peek(s, at);
     if !is_digit(first) {
-        return FirstDigit::Malformed;
+        return None;
     }
     if first == b'0' {
         let second = peek(s, at + 1);
         if is_digit(second) {
-            return FirstDigit::Malformed;
+            return None;
         }
-        return FirstDigit::Digit(0, at + 1);
+        return Some((0, at + 1));
     }
-    FirstDigit::Digit(first - b'0', at + 1)
+    Some((first - b'0', at + 1))
 }
 
-// Digits without a leading zero.
-pub fn number(s: &[u8], at: usize) -> NumberField
+// Digits without a leading zero; the number is cut at MOST.
+#[tactic(auto, using(crate::proofs::Numbers::cut_steps))]
+pub fn number_up_to<const MOST: u64>(s: &[u8], at: usize) -> Option<(u64, usize)>
+    ensures { result ≡ number_cut MOST (number_at s.now at) }
+{
+    let first = peek(s, at);
+    if !is_digit(first) {
+        return None;
+    }
+    if first == b'0' && is_digit(peek(s, at + 1)) {
+        return None;
+    }
+    let mut v = u64::from(first - b'0').min(MOST);
+    for i in at + 1..s.len() {
+        let b = s[i];
+        if !is_digit(b) {
+            return Some((v, i));
+        }
+        v = v
+            .saturating_mul(10)
+            .saturating_add(u64::from(b - b'0'))
+            .min(MOST);
+    }
+    Some((v, s.len()))
+}
+
+// The same, cut above every range.
+pub fn number(s: &[u8], at: usize) -> Option<(u32, usize)>
     ensures { result ≡ number_field (number_at s.now at) }
 {
-    let FirstDigit::Digit(digit, next) = first_digit(s, at) else {
-        return NumberField::Malformed;
-    };
-    run_on(s, next, wide(digit))
+    let (v, next) = number_up_to::<CUT>(s, at)?;
+    Some((v as u32, next))
 }
 
 // A space, and a number after it.
-pub fn spaced_number(s: &[u8], at: usize) -> NumberField
+#[tactic(auto, using(crate::proofs::Bytes::told_after), unfolding(rules::specs::Fields::spaced_number))]
+pub fn spaced_number(s: &[u8], at: usize) -> Option<(u32, usize)>
     ensures { result ≡ number_field (spaced_number s.now at) }
 {
-    let Step::At(p) = byte(s, at, b' ') else {
-        return NumberField::Malformed;
-    };
+    let p = byte(s, at, b' ')?;
     number(s, p)
 }
 
 // Bases.
 
-fn basis_at(s: &[u8], at: usize) -> BasisField
+#[tactic(auto, using(crate::proofs::Numbers::basis_number), unfolding(rules::specs::Fields::basis_at))]
+fn basis_at(s: &[u8], at: usize) -> Option<(Basis, usize)>
     ensures { result ≡ basis_field (basis_at s.now at) }
 {
-    let b = peek(s, at);
-    if b == b'L' {
-        return BasisField::Basis(Basis::Low, at + 1);
+    match peek(s, at) {
+        b'L' => Some((Basis::Low, at + 1)),
+        b'G' => Some((Basis::Generation, at + 1)),
+        _ => {
+            let (v, next) = number(s, at)?;
+            Some((Basis::Mwh(v), next))
+        }
     }
-    if b == b'G' {
-        return BasisField::Basis(Basis::Generation, at + 1);
-    }
-    let NumberField::Number(v, next) = number(s, at) else {
-        return BasisField::Malformed;
-    };
-    BasisField::Basis(Basis::Mwh(v), next)
 }
 
 // A space, and a basis after it.
-pub fn spaced_basis(s: &[u8], at: usize) -> BasisField
+#[tactic(auto, using(crate::proofs::Bytes::told_after), unfolding(rules::specs::Fields::spaced_basis))]
+pub fn spaced_basis(s: &[u8], at: usize) -> Option<(Basis, usize)>
     ensures { result ≡ basis_field (spaced_basis s.now at) }
 {
-    let Step::At(p) = byte(s, at, b' ') else {
-        return BasisField::Malformed;
-    };
+    let p = byte(s, at, b' ')?;
     basis_at(s, p)
 }
 
@@ -194,109 +138,68 @@ pub fn spaced_basis(s: &[u8], at: usize) -> BasisField
 pub fn is_character(c: u8) -> bool
     ensures { result ≡ is_character c }
 {
-    if c < b' ' {
-        return false;
-    }
-    if b'~' < c {
-        return false;
-    }
-    true
+    matches!(c, b' '..=b'~')
 }
 
 fn is_escaped(c: u8) -> bool
     ensures { result ≡ is_escaped c }
 {
-    if c == b'"' {
-        return true;
-    }
-    if c == b'\\' {
-        return true;
-    }
-    false
+    matches!(c, b'"' | b'\\')
 }
 
-// internal: the answer at the closing quote, at index i after n characters
-fn closed(n: usize, i: usize) -> LabelEnd
-    ensures { result ≡ end_of (closedAt n i) }
-{
-    if n < 1 {
-        return LabelEnd::Unclosed;
-    }
-    if 16 < n {
-        return LabelEnd::Unclosed;
-    }
-    LabelEnd::Closed(i)
-}
-
-// A label at the start of a part of a deck.
-pub fn read_label(part: &[u8]) -> LabelEnd
+// A label at the start of a part of a deck: the index of its closing quote.
+#[tactic(auto, using(crate::proofs::Labels::label_steps))]
+pub fn read_label(part: &[u8]) -> Option<usize>
     ensures { result ≡ end_of (label_end part.now) }
 {
-    if peek(part, 0) != b'"' {
-        return LabelEnd::Unclosed;
-    }
+    let mut bytes = part.iter();
+    let Some(b'"') = bytes.next() else {
+        return None;
+    };
     let mut n: usize = 0;
-    let mut i: usize = 1;
-    while i < part.len() {
-        let b = part[i];
-        if b == b'"' {
-            return closed(n, i);
+    while let Some(b) = bytes.next() {
+        if *b == b'"' {
+            return (1..=16)
+                .contains(&n)
+                .then_some(part.len() - bytes.len() - 1);
         }
-        if b == b'\\' {
-            let c = peek(part, i + 1);
-            if !is_escaped(c) {
-                return LabelEnd::Unclosed;
+        if *b == b'\\' {
+            if !is_escaped(*bytes.next()?) {
+                return None;
             }
-            n += 1;
-            i += 2;
-        } else {
-            if !is_character(b) {
-                return LabelEnd::Unclosed;
-            }
-            n += 1;
-            i += 1;
+        } else if !is_character(*b) {
+            return None;
         }
+        n += 1;
     }
-    LabelEnd::Unclosed
+    None
 }
 
 // A space, and a label after it: the part of the deck from the opening quote on is handed to the label reader.
-pub fn spaced_label(s: &[u8], at: usize) -> LabelField
+#[tactic(auto, using(crate::proofs::Labels::label_told, crate::proofs::Bytes::step_inside, crate::proofs::Labels::end_inside))]
+pub fn spaced_label(s: &[u8], at: usize) -> Option<(Place, usize)>
     ensures { result ≡ label_field (spaced_label s.now at) }
 {
-    let Step::At(d) = byte(s, at, b' ') else {
-        return LabelField::Malformed;
-    };
-    let LabelEnd::Closed(z) = read_label(&s[d..]) else {
-        return LabelField::Malformed;
-    };
-    LabelField::At(d + 1, d + z, d + z + 1)
+    let d = byte(s, at, b' ')?;
+    let upto = d + read_label(&s[d..])?;
+    let label = Place { from: d + 1, upto };
+    Some((label, upto + 1))
 }
 
 // The characters of a label's own bytes.
+#[tactic(auto, using(crate::proofs::Characters::filled_steps))]
 pub fn label_at(part: &[u8]) -> Label
     requires { length (unescape false part.now) ≤ 16 }
     ensures { result ≡ label_of (unescape false part.now) }
 {
-    let mut bytes = [0u8; 16];
+    let mut bytes = [0; 16];
     let mut n: usize = 0;
-    let mut i: usize = 0;
-    while i < part.len() {
-        let b = part[i];
-        if b == b'\\' {
-            if part.len() <= i + 1 {
-                return Label {
-                    len: n as u8,
-                    bytes,
-                };
-            }
-            bytes[n] = part[i + 1];
+    let mut escaped = false;
+    for b in part {
+        escaped = *b == b'\\' && !escaped;
+        if !escaped {
+            bytes[n] = *b;
             n += 1;
-            i += 2;
-        } else {
-            bytes[n] = b;
-            n += 1;
-            i += 1;
         }
     }
     Label {

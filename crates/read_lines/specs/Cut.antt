@@ -21,6 +21,7 @@ use Rattle.laws.specs.Choices.{both_true, malformed_not_got, got_failed, field_p
 use Rattle.roundtrip.specs.Labels.{label_stood, label_within, label_from_lem}
 use Rattle.roundtrip.specs.Fields.{byte_stood, inside_from, fields_stood}
 use Rattle.read_fields.specs.Answers.{cut, cut_basis}
+use Rattle.read_lines.specs.Answers.{cut_fields}
 
 -- An answer has its fields.
 
@@ -40,13 +41,6 @@ module _ {A R : Type 0} (answer : Field A → R) where
   not_found malformed r h e = refl
 
 -- Numbers are cut above every range.
-
--- fields with each number cut
-abbrev pub cut_fields : (ks : List Kind) → Fields Place ks → Fields Place ks
-cut_fields [] v = tt
-cut_fields (number x ∷ ks) v = (cut v.0, cut_fields ks v.1)
-cut_fields (basis x ∷ ks) v = (cut_basis v.0, cut_fields ks v.1)
-cut_fields (label ∷ ks) v = (v.0, cut_fields ks v.1)
 
 abbrev BelowCut : List Kind → Type 0
 BelowCut [] = Unit {0}

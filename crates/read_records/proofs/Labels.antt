@@ -1,4 +1,5 @@
 -- The steps of reading a label's characters.
+use Rattle.std.specs.Prelude.{Some, None}
 use mathlib.Core.Path.{◌≡◌, refl, ap, sym, ◌∙◌}
 use mathlib.Core.Bool.{Bool, true, false, ◌&&◌}
 use mathlib.Core.List.{List, [], ◌∷◌, ◌++◌, append-nil}
@@ -6,7 +7,7 @@ use Prim.Native.Nat.{ℕ, suc, ◌+◌, ◌<◌, ◌≤◌}
 use native.Mathlib.Numerals.{add-one}
 use native.Mathlib.Omega.{arith}
 use lib.Dec.{leb, eqb}
-use lib.ListN.{length, set, take, drop, length-take, length-append}
+use lib.ListN.{length, take, drop, length-take, length-append}
 use borrow.Author.Tests.{leb-true, ne_eqb, le-leb, lt-leb}
 use Rattle.rules.specs.Words.{when◌then◌else◌}
 use Rattle.rules.specs.Fields as fields
@@ -17,8 +18,7 @@ use Rattle.laws.specs.Choices.{both_true, malformed_not_got}
 use Rattle.laws.specs.Lists.{get_d_first}
 use Rattle.read_fields.proofs.Bytes.{drop_byte}
 use Rattle.read_records.specs.Answers.{character_then, judged}
-use Rattle.read_records.specs.declared.Character.TheVariants.{Read, Closed, Malformed as NoCharacter}
-use Rattle.read_records.proofs.Lists.{prefixed, prefixed_more}
+use Rattle.read_records.proofs.Lists.{prefixed}
 
 -- One character.
 
@@ -112,24 +112,20 @@ module _ (s : List ℕ) (at : ℕ) (bytes : List ℕ) (n p : ℕ) (size : length
   stored : length (take n bytes) ≡ n
   stored = length-take n bytes ∙ omega arith
 
-  pub label_more : (c next : ℕ) → n < 16 → character_then s (Read c next) ≡ quoted false p (drop p s)
-      → prefixed (take (n + 1) (set bytes n c)) (quoted false next (drop next s)) ≡ quoted false at (drop at s)
-  label_more c next room e =
-      prefixed_more bytes n c (quoted false next (drop next s)) (omega arith)
-      ∙ ap (prefixed (take n bytes)) (sym (pushed_first c (quoted false next (drop next s))) ∙ e)
-      ∙ so_far
-
-  pub label_closed : (next : ℕ) → character_then s (Closed next) ≡ quoted false p (drop p s)
+  closed : (next : ℕ) → character_then s (Some (None, next)) ≡ quoted false p (drop p s)
       → (when leb 1 n then got (take n bytes) next else malformed) ≡ judged (quoted false at (drop at s))
-  label_closed next e =
+  closed next e =
       let whole : quoted false at (drop at s) ≡ got (take n bytes) next = sym so_far ∙ ap (prefixed (take n bytes)) (sym e) ∙ rw append-nil in
       let test : is_label (take n bytes) ≡ leb 1 n = label_sized (take n bytes) (omega (arith, stored)) (quoted_characters false at (drop at s) (take n bytes) next whole) ∙ ap (leb 1) stored in
       rw (whole, test)
 
-  pub label_open : character_then s NoCharacter ≡ quoted false p (drop p s) → malformed ≡ judged (quoted false at (drop at s))
-  label_open e = ap judged (ap (prefixed (take n bytes)) e ∙ so_far)
+  pub label_empty : (next : ℕ) → character_then s (Some (None, next)) ≡ quoted false p (drop p s) → n ≡ 0 → malformed ≡ judged (quoted false at (drop at s))
+  label_empty next e z = ap (λ (n : ℕ). when leb 1 n then got (take n bytes) next else malformed) (sym z) ∙ closed next e
 
-  pub label_full : (c next : ℕ) → 16 ≤ n → character_then s (Read c next) ≡ quoted false p (drop p s) → malformed ≡ judged (quoted false at (drop at s))
+  pub label_closed : (next : ℕ) → character_then s (Some (None, next)) ≡ quoted false p (drop p s) → (n ≡ 0 → ⊥) → got (take n bytes) next ≡ judged (quoted false at (drop at s))
+  label_closed next e z = rw (le-leb 1 n (omega (arith, z))) at (closed next e)
+
+  pub label_full : (c next : ℕ) → 16 ≤ n → character_then s (Some (Some c, next)) ≡ quoted false p (drop p s) → malformed ≡ judged (quoted false at (drop at s))
   label_full c next full e = go (quoted false next (drop next s)) ∙ ap judged (ap (prefixed (take n bytes)) e ∙ so_far)
     where
       go : (f : Field Chars) → malformed ≡ judged (prefixed (take n bytes) (pushed c f))

@@ -1,6 +1,5 @@
 -- What belongs to no one function: the steps of the rules' readers at a place.
 pub mod Texts
-pub mod Numbers
 pub mod Lists
 pub mod Labels
 pub mod Amounts

@@ -12,7 +12,7 @@ use Rattle.laws.specs.Sums.{below_suc}
 use Rattle.members.specs.Live.{row_width}
 use Rattle.merit.specs.LevelNeverBelowB.{state_at}
 use Rattle.merit.specs.NumbersStaySmall.{level_small, changed_small}
-use Rattle.rules.specs.Group.{OpenItem, open_mwh, open_grains, open_amount}
+use Rattle.rules.specs.Group.{no_running, OpenItem, open_mwh, open_grains, open_amount}
 use Rattle.rules.specs.Hour.{Cells, Progress, pair_cells, open_items, open_cells, cells_of, pair_width, open_width, cell_count}
 use Rattle.rules.specs.declared.Hour.{Hour}
 use Rattle.rules.specs.declared.Running.{Running}
@@ -74,11 +74,12 @@ same_cell ss i (suc (suc k)) l = absurd (omega arith)
 
 -- Each source's.
 
--- where the open energy of n sources may be put
-pub record OpenFits (ss : List Running) (at n : ℕ) (xs : List ℤ) : Type 0 where
-  pub ready : AllReady ss n
+-- where the sources' open energy may be put
+pub record OpenFits (ss : List Running) (at : ℕ) (xs : List ℤ) : Type 0 where
+  pub few : length ss ≤ 32
+  pub ready : (i : ℕ) → i < length ss → Ready (state_at ss i)
   pub low : at ≤ 32 * row_width
-  pub room : at + n * open_width ≤ length xs
+  pub room : at + length ss * open_width ≤ length xs
 
 -- of xs, ys with the open items of n sources from a place on
 pub record OpenPut (ss : List Running) (at n : ℕ) (xs ys : List ℤ) : Type 0 where
@@ -88,9 +89,6 @@ pub record OpenPut (ss : List Running) (at n : ℕ) (xs ys : List ℤ) : Type 0 
   pub beyond : (m : ℕ) → at + n * open_width ≤ m → cell_at ys m ≡ cell_at xs m
 
 module _ (ss : List Running) (at : ℕ) (xs : List ℤ) where
-  pub open_none : OpenPut ss at 0 xs xs
-  open_none = record { long = refl; before = λ m l. refl; inside = λ i k b l. absurd (omega arith); beyond = λ m l. refl }
-
   pub open_more : (n : ℕ) (amounts : List ℕ) (ys zs : List ℤ) → OpenPut ss at n xs ys → amounts ≡ map (λ item. open_amount item (state_at ss n)) open_items → AmountsPut (at + n * open_width) amounts open_width ys zs → OpenPut ss at (n + 1) xs zs
   open_more n amounts ys zs p e a = record {
     long = a.long ∙ p.long;
@@ -106,8 +104,20 @@ module _ (ss : List Running) (at : ℕ) (xs : List ℤ) where
           let z : at + (n * open_width + k) ≡ at + n * open_width + k = omega arith in
           ap (cell_at zs) z ∙ a.inside k b ∙ ap (λ (zs : List ℕ). pos (get_or zs k 0)) e ∙ same_cell ss n k b
 
-  pub open_all_lem : (n i : ℕ) (ys : List ℤ) → i ≤ n → n ≤ i → OpenPut ss at i xs ys → OpenPut ss at n xs ys
-  open_all_lem n i ys a b p = let e : i ≡ n = omega arith in rw e at p
+-- of the first n alone
+module _ (ss : List Running) (n : ℕ) (l : n ≤ length ss) where
+  at_taken : (i : ℕ) → i < n → state_at (take n ss) i ≡ state_at ss i
+  at_taken i m = get_or-take n ss i no_running m
+
+  pub open_fits_taken : (at : ℕ) (xs : List ℤ) → AllReady ss n → at ≤ 32 * row_width → at + n * open_width ≤ length xs → OpenFits (take n ss) at xs
+  open_fits_taken at xs r a b =
+      let e = length-take-le n ss l in
+      record { few = omega (arith, e, r.n_small); ready = λ i m. rw (at_taken i (omega (arith, e))) (r.ready i); low = a; room = rw e b }
+
+  pub open_put_taken : (at : ℕ) (xs ys : List ℤ) → OpenPut (take n ss) at (length (take n ss)) xs ys → OpenPut ss at n xs ys
+  open_put_taken at xs ys p =
+      let q : OpenPut (take n ss) at n xs ys = rw (length-take-le n ss l) at p in
+      record { long = q.long; before = q.before; inside = λ i k b m. q.inside i k b m ∙ ap (λ (s : Running). get_or (map (λ item. pos (open_amount item s)) open_items) k (pos 0)) (at_taken i m); beyond = q.beyond }
 
 -- what holds of each place of n pieces of length w
 pieces : (P : ℕ → Type 0) (w n : ℕ) → ((j r : ℕ) → j < n → r < w → P (j * w + r)) → (m : ℕ) → m < n * w → P m

@@ -13,7 +13,7 @@ ghost use Rattle.sequence.specs.Placings.{placings};
 ghost use Rattle.reconstruct.specs.CellsCleared.{Cleared};
 ghost use Rattle.reconstruct.specs.CellsWritten.{AmountsFit, AmountsPut, OpenFits, OpenPut};
 
-use rules::{Hour, Key, Refusal, Running, Verdict, Written};
+use rules::{Hour, Key, Refusal, Running};
 
 // A source's open cells.
 pub const OPEN_CELLS: usize = 2;
@@ -38,41 +38,23 @@ fn put_amounts(cells: &mut [i64], at: usize, amounts: [u64; OPEN_CELLS])
     requires { AmountsFit at amounts cells.old }
     ensures { AmountsPut at amounts open_width cells.old cells.new }
 {
-    let mut item = 0;
-    while item < OPEN_CELLS {
-        cells[at + item] = cell(amounts[item]);
-        item += 1;
+    for (item, amount) in amounts.iter().enumerate() {
+        cells[at + item] = cell(*amount);
     }
 }
 
 // Each source's, from a place on.
-fn put_open(cells: &mut [i64], at: usize, states: [Running; 32], n: usize)
-    requires { OpenFits states at n cells.old }
-    ensures { OpenPut states at n cells.old cells.new }
+fn put_open(cells: &mut [i64], at: usize, states: &[Running])
+    requires { OpenFits states.now at cells.old }
+    ensures { OpenPut states.now at (length states.now) cells.old cells.new }
 {
-    let mut i = 0;
-    while i < n {
-        let s = states[i];
-        let amounts = open_amounts(s);
-        put_amounts(cells, at + i * OPEN_CELLS, amounts);
-        i += 1;
-    }
-}
-
-// 0 in the first n cells.
-fn clear(cells: &mut [i64], n: usize)
-    requires { n ≤ length cells.old }
-    ensures { Cleared n cells.old cells.new }
-{
-    let mut i = 0;
-    while i < n {
-        cells[i] = 0;
-        i += 1;
+    for (i, s) in states.iter().enumerate() {
+        put_amounts(cells, at + i * OPEN_CELLS, open_amounts(*s));
     }
 }
 
 // The cells of a valid hour whose deliveries have these keys, by either engine: 14, then the first group that meets 12 or 13.
-pub fn fill(h: Hour, keys: [Key; 32], by_price: bool, out: &mut [i64]) -> Written
+pub fn fill(h: Hour, keys: [Key; 32], by_price: bool, out: &mut [i64]) -> Result<usize, Refusal>
     requires { (valid h ≡ true) × (keys ≡ placings h.deliveries h.ndeliveries) }
     ensures outcome { result ≡ written_of (cells_for h (length out.old)) }
     ensures cells { out.new ≡ leaves (cells_for h (length out.old)) out.old }
@@ -82,56 +64,52 @@ pub fn fill(h: Hour, keys: [Key; 32], by_price: bool, out: &mut [i64]) -> Writte
     let pairs = m * (n * moves::PAIR_CELLS);
     let count = pairs + n * OPEN_CELLS;
     if out.len() < count {
-        return Written::Refused(Refusal::Short);
+        return Err(Refusal::Short);
     }
-    let deliveries = h.deliveries;
-    let mut mwhs: [u64; 32] = [0; 32];
-    members::list_mwhs(deliveries, m, &mut mwhs);
+    let mwhs = members::list_mwhs(&h.deliveries, m);
     let mut led: [u64; 32] = [0; 32];
     let mut kept: [u64; 1024] = [0; 1024];
-    let end = groups::take_turns(h, keys, by_price, &mwhs, &mut led, &mut kept);
-    let verdict = end.verdict;
-    match verdict {
-        Verdict::Accepted => {
-            let states = end.states;
-            clear(out, pairs);
-            members::share_all(out, n, m, &mwhs, keys, &led, states, &kept);
-            put_open(out, pairs, states, n);
-            Written::Count(count)
-        }
-        Verdict::Refused(r) => Written::Refused(r),
-    }
+    let mut states = groups::blank_states();
+    groups::take_turns(h, keys, by_price, &mwhs, &mut led, &mut kept, &mut states)?;
+    out[..pairs].fill(0);
+    members::share_all(out, n, m, &mwhs, &keys, &led, &states, &kept);
+    put_open(out, pairs, &states[..n]);
+    Ok(count)
 }
 
 // The cells of a valid hour: of one that a deck gave.
-pub fn cells_of(h: Hour, by_price: bool, out: &mut [i64]) -> Written
+pub fn cells_of(h: Hour, by_price: bool, out: &mut [i64]) -> Result<usize, Refusal>
     requires { valid h ≡ true }
     ensures outcome { result ≡ written_of (cells_for h (length out.old)) }
     ensures cells { out.new ≡ leaves (cells_for h (length out.old)) out.old }
 {
-    let deliveries = h.deliveries;
-    let keys = sequence::keys(deliveries, h.ndeliveries);
+    let keys = sequence::keys(&h.deliveries, h.ndeliveries);
     fill(h, keys, by_price, out)
 }
 
-// By the plain rule, one MWh at a time.
-pub fn plain(h: Hour, out: &mut [i64]) -> Written
+// Of any hour record: 15, and then its cells.
+fn tried(h: Hour, by_price: bool, out: &mut [i64]) -> Result<usize, Refusal>
     ensures outcome { result ≡ written_of (reconstruction h (length out.old)) }
     ensures cells { out.new ≡ leaves (reconstruction h (length out.old)) out.old }
 {
     if !record::valid(h) {
-        return Written::Refused(Refusal::NoDeck);
+        return Err(Refusal::NoDeck);
     }
-    cells_of(h, false, out)
+    cells_of(h, by_price, out)
+}
+
+// By the plain rule, one MWh at a time.
+pub fn plain(h: Hour, out: &mut [i64]) -> Result<usize, Refusal>
+    ensures outcome { result ≡ written_of (reconstruction h (length out.old)) }
+    ensures cells { out.new ≡ leaves (reconstruction h (length out.old)) out.old }
+{
+    tried(h, false, out)
 }
 
 // By a search for the price.
-pub fn price(h: Hour, out: &mut [i64]) -> Written
+pub fn price(h: Hour, out: &mut [i64]) -> Result<usize, Refusal>
     ensures outcome { result ≡ written_of (reconstruction h (length out.old)) }
     ensures cells { out.new ≡ leaves (reconstruction h (length out.old)) out.old }
 {
-    if !record::valid(h) {
-        return Written::Refused(Refusal::NoDeck);
-    }
-    cells_of(h, true, out)
+    tried(h, true, out)
 }

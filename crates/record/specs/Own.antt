@@ -1,5 +1,5 @@
 -- Document 01, "hour record that no deck gives" (15), as tests of the record's own places in turn: below the counts each entry let through as a deck's line would be, blanks from there on, 10 and 11.
-use Rattle.std.specs.Prelude.{Bool, true, false, not, ◌&&◌, List, ◌≡◌, ℕ, zero, suc, ◌+◌, leb, ltb, eqb, length, get_or, set, replicate}
+use Rattle.std.specs.Prelude.{is_ok, Bool, true, not, ◌&&◌, List, ◌≡◌, ℕ, zero, suc, ◌+◌, leb, ltb, eqb, length, get_or, set, replicate}
 use Rattle.rules.specs.Words.{when◌then◌else◌, all_to}
 use Rattle.rules.specs.Answers.{verdict_of}
 use Rattle.rules.specs.Group.{no_direct}
@@ -11,18 +11,12 @@ use Rattle.rules.specs.declared.Source.{Source}
 use Rattle.rules.specs.declared.Delivery.{Delivery}
 use Rattle.rules.specs.declared.Direct.{Direct}
 use Rattle.rules.specs.declared.Hour.{Hour}
-use Rattle.rules.specs.declared.Verdict.{Verdict}
-use Rattle.rules.specs.declared.Verdict.TheVariants.{Accepted, Refused}
 use Rattle.record.specs.Shape.{own_label, source_blank, delivery_blank, direct_blank}
 use Rattle.ranges.specs.Inside.{plant_inside, delivery_inside, direct_inside, losses_inside}
 use Rattle.line_rules.specs.Spellings.{spelling_of}
 use Rattle.line_rules.specs.Tried.{counts_of, source_tried, delivery_tried, Tables, unit_high, basis_code, below_most, code_leaves}
 use Rattle.line_rules.specs.declared.Spelling.{Spelling}
 use Rattle.line_rules.specs.declared.Counts.{Counts}
-
-abbrev pub accepts : Verdict → Bool
-accepts Accepted = true
-accepts (Refused r) = false
 
 -- The tables of the first entries.
 
@@ -87,7 +81,7 @@ counts i j k = record { sources = i; deliveries = j; directs = k }
 
 -- a source after i others: what the rules say, and its label
 abbrev pub source_ruled : ℕ → Plant → Spelling → List ℕ → List ℕ → Bool
-source_ruled i p spelling lo hi = accepts (verdict_of (source_tried (counts i 0 0) (plant_inside p) p spelling lo hi))
+source_ruled i p spelling lo hi = is_ok (verdict_of (source_tried (counts i 0 0) (plant_inside p) p spelling lo hi))
 
 unfoldable pub source_own : ℕ → Source → List ℕ → List ℕ → Bool
 source_own i x lo hi = own_label x.label && source_ruled i x.plant (spelling_of x.label) lo hi
@@ -97,7 +91,7 @@ source_own_at sources i = source_own i (get_or sources i no_source) (slos_to sou
 
 -- a delivery after n sources and j others
 abbrev pub delivery_ruled : ℕ → ℕ → Delivery → Spelling → List ℕ → List ℕ → Bool
-delivery_ruled n j x spelling lo hi = accepts (verdict_of (delivery_tried (counts n j 0) (delivery_inside x.sequence.0 x.kind x.block x.mwh) spelling lo hi))
+delivery_ruled n j x spelling lo hi = is_ok (verdict_of (delivery_tried (counts n j 0) (delivery_inside x.sequence.0 x.kind x.block x.mwh) spelling lo hi))
 
 unfoldable pub delivery_own : ℕ → ℕ → Delivery → List ℕ → List ℕ → Bool
 delivery_own n j x lo hi = own_label x.label && delivery_ruled n j x (spelling_of x.label) lo hi
@@ -156,4 +150,4 @@ pub record Passes (h : Hour) : Type 0 where
   pub sources : Places h.sources (source_stands_at h)
   pub deliveries : Places h.deliveries (delivery_stands_at h)
   pub directs : Places h.directs (direct_stands_at h)
-  pub done : accepts (verdict_of (finished h)) ≡ true
+  pub done : is_ok (verdict_of (finished h)) ≡ true

@@ -1,10 +1,11 @@
 -- A record passes the test place by place exactly when some deck gives it.
-use Rattle.std.specs.Prelude.{◌≡◌, Bool, true, false, ℕ, ◌≤◌, get_or, replicate}
+use Rattle.std.specs.Prelude.{is_ok, ◌≡◌, Bool, true, false, ℕ, ◌≤◌, get_or, replicate}
 use Rattle.std.proofs.Math.Path.{refl, ap}
 use Rattle.std.proofs.Common.{sym, ◌∙◌, arith}
 use mathlib.Core.List.{List, [], ◌∷◌, ◌++◌, append-nil}
 use Rattle.rules.specs.Words.{list_to, all_to}
 use Rattle.rules.specs.Refusals.{accepted}
+use Rattle.rules.specs.Answers.{verdict_of}
 use Rattle.rules.specs.Lines.{Line}
 use Rattle.rules.specs.Group.{no_direct}
 use Rattle.rules.specs.Sequences.{no_delivery}
@@ -137,3 +138,8 @@ fails_valid h test told e = go (valid h) refl
     go : (v : Bool) → valid h ≡ v → false ≡ v
     go true p = false_not_true (sym e ∙ told (lines_pass h (valid_own h p)))
     go false p = refl
+
+-- where all but the last have passed, the last decides
+pub ended_valid : (h : Hour) (b : Bool) → b ≡ is_ok (verdict_of (finished h)) → (is_ok (verdict_of (finished h)) ≡ true → Passes h) → b ≡ valid h
+ended_valid h true e p = passes_valid h (p (sym e))
+ended_valid h false e p = fails_valid h _ (λ p. p.done) (sym e)

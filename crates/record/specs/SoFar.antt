@@ -1,5 +1,5 @@
 -- The hour that a record's first entries make, and its tables: an entry that passes makes the next, and one that was fed passes.
-use Rattle.std.specs.Prelude.{◌≡◌, Bool, false, not, ◌&&◌, List, ℕ, suc, ◌+◌, ◌<◌, leb, ltb, eqb, get_or, replicate}
+use Rattle.std.specs.Prelude.{is_ok, Result, Ok, Err, Some, None, ◌≡◌, Bool, false, not, ◌&&◌, List, ℕ, suc, ◌+◌, ◌<◌, leb, ltb, eqb, get_or, replicate}
 use Rattle.std.proofs.Math.Path.{refl, ap, subst}
 use Rattle.std.proofs.Common.{sym, ◌∙◌, add-one, arith}
 use Rattle.std.proofs.Math.Bool.{true}
@@ -26,8 +26,6 @@ use Rattle.rules.specs.declared.Direct.{Direct}
 use Rattle.rules.specs.declared.Hour.{Hour}
 use Rattle.rules.specs.declared.Refusal.{Refusal}
 use Rattle.rules.specs.declared.Refusal.TheVariants.{Range, Full, Names, OtherBasis, Percents}
-use Rattle.rules.specs.declared.Verdict.{Verdict}
-use Rattle.rules.specs.declared.Verdict.TheVariants.{Accepted, Refused}
 use Rattle.laws.specs.Answers.{verdict_accepted}
 use Rattle.laws.specs.Choices.{false_not_true, both_true, refused_not_accepted, accepted_same, then_passed}
 use Rattle.roundtrip.specs.Lines.{line_labelled}
@@ -43,11 +41,10 @@ use Rattle.line_rules.specs.TriedIsTaken.{source_tried_lem, delivery_tried_lem, 
 use Rattle.line_rules.specs.TablesKept.{kept_started, kept_source, kept_delivery, kept_direct}
 use Rattle.line_rules.specs.declared.Counts.{Counts}
 use Rattle.line_rules.specs.declared.DirectLine.{DirectLine}
-use Rattle.line_rules.specs.declared.Pair.TheVariants.{Both, Missing}
 use Rattle.record.specs.Shape.{own_label}
 use Rattle.record.specs.ShapeTells.{own_labelled, labelled_own}
 use Rattle.record.specs.Own as own
-use Rattle.record.specs.Own.{accepts, fill_to, tables_to, counts, slos_to, shis_to, tlos_to, this_to, source_own_at, delivery_own_at, direct_own_at}
+use Rattle.record.specs.Own.{fill_to, tables_to, counts, slos_to, shis_to, tlos_to, this_to, source_own_at, delivery_own_at, direct_own_at}
 use Rattle.record.specs.Fill.{fill_to_made}
 use Rattle.record.specs.OwnTells.{direct_own_lem}
 use Rattle.record.specs.Turns.{Extends, fed_extends, Step}
@@ -66,12 +63,12 @@ so_far h i j k =
     }
 
 -- an outcome whose verdict accepts
-pub accepts_told : {A : Type 0} (o : Outcome A) → accepts (verdict_of o) ≡ true → (a : A) × (o ≡ accepted a)
+pub accepts_told : {A : Type 0} (o : Outcome A) → is_ok (verdict_of o) ≡ true → (a : A) × (o ≡ accepted a)
 accepts_told o e = verdict_accepted o (go (verdict_of o) e)
   where
-    go : (v : Verdict) → accepts v ≡ true → v ≡ Accepted
-    go Accepted e = refl
-    go (Refused r) e = false_not_true e
+    go : (v : Result (Unit {0}) Refusal) → is_ok v ≡ true → v ≡ Ok tt
+    go (Ok tt) e = refl
+    go (Err r) e = false_not_true e
 
 -- what was taken past the tables was let through by them
 passed_back : (o : Outcome (Unit {0})) (after mid : Hour) → and_then o (λ u. accepted after) ≡ accepted mid → (o ≡ accepted tt) × (after ≡ mid)
@@ -80,7 +77,7 @@ passed_back (refused r) after mid e = refused_not_accepted r mid e
 
 -- an entry that is the one with its label padded has a label, and passes as that one does
 own_back : {A : Type 0} (label : A → Label) (x x' : A) → x ≡ x' → label x' ≡ label_of (chars (label x)) → is_label (chars (label x)) ≡ true
-    → (tried : Label → Outcome (Unit {0})) → tried (label x') ≡ accepted tt → (own_label (label x) && accepts (verdict_of (tried (label x)))) ≡ true
+    → (tried : Label → Outcome (Unit {0})) → tried (label x') ≡ accepted tt → (own_label (label x) && is_ok (verdict_of (tried (label x)))) ≡ true
 own_back label x x' e p is tried t =
     let same : label x ≡ label x' = ap label e in
     rw (labelled_own (label x) (record { label = is; padded = sym (same ∙ p) }), ap tried same ∙ t)
@@ -223,7 +220,7 @@ direct_labelled : (h : Hour) (x : Direct) → line_labelled (direct_line h x) �
 unfolding lines.labelled
 direct_labelled h x = refl
 
-pair_if : (b : Bool) (i j : ℕ) (r : Refusal) (after : ℕ → ℕ → Outcome Direct) → on_pair (when b then Missing else Both i j) r after ≡ (when b then refused r else after i j)
+pair_if : (b : Bool) (i j : ℕ) (r : Refusal) (after : ℕ → ℕ → Outcome Direct) → on_pair (when b then None else Some (i, j)) r after ≡ (when b then refused r else after i j)
 pair_if true i j r after = refl
 pair_if false i j r after = refl
 

@@ -4,14 +4,14 @@
 
 mod shape;
 
-ghost use Rattle.std.specs.Prelude.{◌≡◌, ◌&&◌, ◌+◌, ◌≤◌, ◌<◌, ltb, get_or};
+ghost use Rattle.std.specs.Prelude.{◌≡◌, ◌&&◌, ◌+◌, ◌≤◌, ◌<◌, ltb, get_or, IsTrue};
 ghost use Rattle.rules.specs.Writing as writing;
 ghost use Rattle.line_rules.specs.Spellings.{spelling_of};
 ghost use Rattle.line_rules.specs.Tried.{Few, unit_high, basis_code};
 ghost use Rattle.record.specs.Own.{source_ruled, delivery_ruled, direct_own, set_if, source_stands, delivery_stands, direct_stands, few_entries};
 
 use line_rules::{Counts, Spelling, Totals};
-use rules::{Delivery, Direct, Hour, Plant, Source, Verdict};
+use rules::{Delivery, Direct, Hour, Plant, Source};
 
 // A source with a label, after i others.
 fn source_given(i: usize, p: Plant, spelling: Spelling, lo: &[u64; 32], hi: &[u64; 32]) -> bool
@@ -23,17 +23,7 @@ fn source_given(i: usize, p: Plant, spelling: Spelling, lo: &[u64; 32], hi: &[u6
         deliveries: 0,
         directs: 0,
     };
-    let Verdict::Accepted = line_rules::take_source(
-        n,
-        ranges::plant_in_range(p),
-        p,
-        spelling,
-        lo,
-        hi,
-    ) else {
-        return false;
-    };
-    true
+    line_rules::take_source(n, ranges::plant_in_range(p), p, spelling, lo, hi).is_ok()
 }
 
 // A delivery with a label, after n sources and j others.
@@ -48,20 +38,17 @@ fn delivery_given(
     requires { (n ≤ 32) × (j ≤ 32) }
     ensures { result ≡ delivery_ruled n j x spelling lo.now hi.now }
 {
-    let s = x.sequence;
-    let ranged = ranges::delivery_in_range(s.0, x.kind, x.block, x.mwh);
+    let ranged = ranges::delivery_in_range(x.sequence.0, x.kind, x.block, x.mwh);
     let c = Counts {
         sources: n,
         deliveries: j,
         directs: 0,
     };
-    let Verdict::Accepted = line_rules::take_delivery(c, ranged, spelling, lo, hi) else {
-        return false;
-    };
-    true
+    line_rules::take_delivery(c, ranged, spelling, lo, hi).is_ok()
 }
 
 // A D entry after n others: no two labels are the same, so its line names what stands at its places.
+#[tactic(auto, unfolding(crate::specs::Own::direct_own))]
 fn direct_given(
     n: Counts,
     x: Direct,
@@ -70,33 +57,22 @@ fn direct_given(
     percents: &[u32; 32],
 ) -> bool
     requires { Few n }
-    ensures { result ≡ direct_own n x high.now based.now percents.now }
+    ensures own { result ≡ direct_own n x high.now based.now percents.now }
+    ensures within { IsTrue result → (x.source < 32) × (get_or percents.now x.source 0 + x.percent ≤ 100) }
 {
-    if n.sources <= x.source {
-        return false;
-    }
-    if n.deliveries <= x.delivery {
-        return false;
-    }
-    let b = x.basis;
-    if !ranges::direct_in_range(b, x.percent) {
-        return false;
-    }
-    if 32 <= n.directs {
-        return false;
-    }
     let s = x.source;
-    if high[s] == 0 {
-        return false;
-    }
-    if !line_rules::basis_allowed(b, based[s], high[s]) {
-        return false;
-    }
-    line_rules::wide(percents[s]) + line_rules::wide(x.percent) <= 100
+    s < n.sources
+        && x.delivery < n.deliveries
+        && ranges::direct_in_range(x.basis, x.percent)
+        && n.directs < 32
+        && high[s] != 0
+        && line_rules::basis_allowed(x.basis, based[s], high[s])
+        && line_rules::wide(percents[s]) + line_rules::wide(x.percent) <= 100
 }
 
 // A place of each class, after those before it: below the count its entry is let through and kept, from there on it is blank.
 
+#[tactic(auto, unfolding(crate::specs::Own::source_stands, crate::specs::Own::source_own))]
 fn source_stands(
     n: Counts,
     i: usize,
@@ -114,19 +90,18 @@ fn source_stands(
     if n.sources <= i {
         return shape::is_blank_source(x);
     }
-    let l = x.label;
-    if !shape::is_label(l) {
+    if !shape::is_label(x.label) {
         return false;
     }
-    let k = line_rules::spelling_of(l);
-    let p = x.plant;
-    if !source_given(i, p, k, lo, hi) {
+    let k = line_rules::spelling_of(x.label);
+    if !source_given(i, x.plant, k, lo, hi) {
         return false;
     }
-    line_rules::keep_source(i, k, p, lo, hi, high);
+    line_rules::keep_source(i, k, x.plant, lo, hi, high);
     true
 }
 
+#[tactic(auto, unfolding(crate::specs::Own::delivery_stands, crate::specs::Own::delivery_own))]
 fn delivery_stands(n: Counts, j: usize, x: Delivery, lo: &mut [u64; 32], hi: &mut [u64; 32]) -> bool
     requires { Few n × (j < 32) }
     ensures value { result ≡ delivery_stands n j x lo.old hi.old }
@@ -136,11 +111,10 @@ fn delivery_stands(n: Counts, j: usize, x: Delivery, lo: &mut [u64; 32], hi: &mu
     if n.deliveries <= j {
         return shape::is_blank_delivery(x);
     }
-    let l = x.label;
-    if !shape::is_label(l) {
+    if !shape::is_label(x.label) {
         return false;
     }
-    let k = line_rules::spelling_of(l);
+    let k = line_rules::spelling_of(x.label);
     if !delivery_given(n.sources, j, x, k, lo, hi) {
         return false;
     }
@@ -148,6 +122,7 @@ fn delivery_stands(n: Counts, j: usize, x: Delivery, lo: &mut [u64; 32], hi: &mu
     true
 }
 
+#[tactic(auto, unfolding(crate::specs::Own::direct_stands))]
 fn direct_stands(
     n: Counts,
     k: usize,
@@ -164,11 +139,7 @@ fn direct_stands(
     if n.directs <= k {
         return shape::is_blank_direct(x);
     }
-    let before = Counts {
-        sources: n.sources,
-        deliveries: n.deliveries,
-        directs: k,
-    };
+    let before = Counts { directs: k, ..n };
     if !direct_given(before, x, high, based, percents) {
         return false;
     }
@@ -176,16 +147,12 @@ fn direct_stands(
     true
 }
 
+#[tactic(auto, unfolding(crate::specs::Own::few_entries))]
 fn few_entries(n: Counts) -> bool
-    ensures { result ≡ few_entries n }
+    ensures tested { result ≡ few_entries n }
+    ensures few { IsTrue result → Few n }
 {
-    if 32 < n.sources {
-        return false;
-    }
-    if 32 < n.deliveries {
-        return false;
-    }
-    n.directs <= 32
+    n.sources <= 32 && n.deliveries <= 32 && n.directs <= 32
 }
 
 // Whether some deck gives the record (15): every place stands, and 10 and 11 are kept; a blank adds nothing to the totals.
@@ -212,39 +179,29 @@ pub fn valid(h: Hour) -> bool
     let mut slo = [0u64; 32];
     let mut shi = [0u64; 32];
     let mut high = [0u32; 32];
-    let mut i: usize = 0;
-    while i < 32 {
+    for i in 0..32 {
         let x = h.sources[i];
         if !source_stands(n, i, x, &mut slo, &mut shi, &mut high) {
             return false;
         }
-        let p = x.plant;
-        totals = line_rules::add_source(totals, p);
-        i += 1;
+        totals = line_rules::add_source(totals, x.plant);
     }
     let mut tlo = [0u64; 32];
     let mut thi = [0u64; 32];
-    let mut j: usize = 0;
-    while j < 32 {
+    for j in 0..32 {
         let x = h.deliveries[j];
         if !delivery_stands(n, j, x, &mut tlo, &mut thi) {
             return false;
         }
         totals = line_rules::add_delivery(totals, x);
-        j += 1;
     }
     let mut based = [0u64; 32];
     let mut percents = [0u32; 32];
-    let mut k: usize = 0;
-    while k < 32 {
+    for k in 0..32 {
         let x = h.directs[k];
         if !direct_stands(n, k, x, &high, &mut based, &mut percents) {
             return false;
         }
-        k += 1;
     }
-    let Verdict::Accepted = line_rules::finish(n, h.losses, totals) else {
-        return false;
-    };
-    true
+    line_rules::finish(n, h.losses, totals).is_ok()
 }

@@ -14,10 +14,11 @@ fn size(x: u8) -> usize
 fn own_byte(inside: bool, b: u8) -> bool
     ensures { result ≡ own_byte inside b }
 {
-    if !inside {
-        return b == 0;
+    if inside {
+        read_fields::is_character(b)
+    } else {
+        b == 0
     }
-    read_fields::is_character(b)
 }
 
 // Characters as far as the label goes, and zeros after them.
@@ -26,24 +27,17 @@ fn is_padded(l: Label) -> bool
 {
     let n = size(l.len);
     let mut all = true;
-    let mut i: usize = 0;
-    while i < 16 {
+    for i in 0..16 {
         all = all & own_byte(i < n, l.bytes[i]);
-        i += 1;
     }
     all
 }
 
+#[tactic(auto, unfolding(crate::specs::Shape::own_label))]
 pub fn is_label(l: Label) -> bool
     ensures { result ≡ own_label l }
 {
-    if l.len < 1 {
-        return false;
-    }
-    if 16 < l.len {
-        return false;
-    }
-    is_padded(l)
+    1 <= l.len && l.len <= 16 && is_padded(l)
 }
 
 // No character, and sixteen zeros.
@@ -54,10 +48,8 @@ fn is_blank_label(l: Label) -> bool
         return false;
     }
     let mut all = true;
-    let mut at: usize = 0;
-    while at < 16 {
+    for at in 0..16 {
         all = all & own_byte(false, l.bytes[at]);
-        at += 1;
     }
     all
 }
@@ -66,41 +58,23 @@ fn is_blank_plant(p: Plant) -> bool
     ensures { result ≡ blank_plant p }
 {
     match p {
-        Plant::Unit(u) => false,
-        Plant::Purchase { g, rate } => false,
+        Plant::Unit(_) | Plant::Purchase { .. } => false,
         Plant::Fixed { g } => g == 0,
     }
 }
 
+#[tactic(auto, unfolding(crate::specs::Shape::source_blank))]
 pub fn is_blank_source(x: Source) -> bool
     ensures { result ≡ source_blank x }
 {
-    let p = x.plant;
-    if !is_blank_plant(p) {
-        return false;
-    }
-    let l = x.label;
-    is_blank_label(l)
+    is_blank_plant(x.plant) && is_blank_label(x.label)
 }
 
+#[tactic(auto, unfolding(crate::specs::Shape::delivery_blank))]
 pub fn is_blank_delivery(x: Delivery) -> bool
     ensures { result ≡ delivery_blank x }
 {
-    let s = x.sequence;
-    if s.0 != 0 {
-        return false;
-    }
-    if x.kind != 0 {
-        return false;
-    }
-    if x.block != 0 {
-        return false;
-    }
-    if x.mwh != 0 {
-        return false;
-    }
-    let l = x.label;
-    is_blank_label(l)
+    x.sequence.0 == 0 && x.kind == 0 && x.block == 0 && x.mwh == 0 && is_blank_label(x.label)
 }
 
 fn is_blank_basis(b: Basis) -> bool
@@ -108,23 +82,13 @@ fn is_blank_basis(b: Basis) -> bool
 {
     match b {
         Basis::Low => true,
-        Basis::Generation => false,
-        Basis::Mwh(v) => false,
+        Basis::Generation | Basis::Mwh(_) => false,
     }
 }
 
+#[tactic(auto, unfolding(crate::specs::Shape::direct_blank))]
 pub fn is_blank_direct(x: Direct) -> bool
     ensures { result ≡ direct_blank x }
 {
-    let b = x.basis;
-    if !is_blank_basis(b) {
-        return false;
-    }
-    if x.percent != 0 {
-        return false;
-    }
-    if x.source != 0 {
-        return false;
-    }
-    x.delivery == 0
+    is_blank_basis(x.basis) && x.percent == 0 && x.source == 0 && x.delivery == 0
 }

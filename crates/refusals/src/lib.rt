@@ -15,51 +15,40 @@ pub fn number_of(r: Refusal) -> u64
 {
     match r {
         Refusal::TooLong => 1,
-        Refusal::Form(line) => 2,
-        Refusal::Range(line) => 3,
-        Refusal::Full(line) => 4,
-        Refusal::Used(line) => 5,
-        Refusal::Levels(line) => 6,
-        Refusal::Names(line) => 7,
-        Refusal::OtherBasis(line) => 8,
-        Refusal::Percents(line) => 9,
+        Refusal::Form(_) => 2,
+        Refusal::Range(_) => 3,
+        Refusal::Full(_) => 4,
+        Refusal::Used(_) => 5,
+        Refusal::Levels(_) => 6,
+        Refusal::Names(_) => 7,
+        Refusal::OtherBasis(_) => 8,
+        Refusal::Percents(_) => 9,
         Refusal::Overdrawn => 10,
-        Refusal::Unplaced(line) => 11,
-        Refusal::NoRoom(x) => 12,
-        Refusal::NoHeadroom(x) => 13,
+        Refusal::Unplaced(_) => 11,
+        Refusal::NoRoom(_) => 12,
+        Refusal::NoHeadroom(_) => 13,
         Refusal::Short => 14,
         Refusal::NoDeck => 15,
-        Refusal::FileRecord(n) => 16,
+        Refusal::FileRecord(_) => 16,
     }
-}
-
-// An internal number as a place.
-fn wide(x: u32) -> usize
-    ensures { result ≡ x }
-{
-    x as usize
 }
 
 pub fn place_of(r: Refusal) -> usize
     ensures { result ≡ place_of r }
 {
     match r {
-        Refusal::TooLong => 0,
-        Refusal::Form(line) => line,
-        Refusal::Range(line) => line,
-        Refusal::Full(line) => line,
-        Refusal::Used(line) => line,
-        Refusal::Levels(line) => line,
-        Refusal::Names(line) => line,
-        Refusal::OtherBasis(line) => line,
-        Refusal::Percents(line) => line,
-        Refusal::Overdrawn => 0,
-        Refusal::Unplaced(line) => line,
-        Refusal::NoRoom(x) => wide(x.0),
-        Refusal::NoHeadroom(x) => wide(x.0),
-        Refusal::Short => 0,
-        Refusal::NoDeck => 0,
+        Refusal::Form(line)
+        | Refusal::Range(line)
+        | Refusal::Full(line)
+        | Refusal::Used(line)
+        | Refusal::Levels(line)
+        | Refusal::Names(line)
+        | Refusal::OtherBasis(line)
+        | Refusal::Percents(line)
+        | Refusal::Unplaced(line) => line,
+        Refusal::NoRoom(x) | Refusal::NoHeadroom(x) => x.0 as usize,
         Refusal::FileRecord(n) => n,
+        Refusal::TooLong | Refusal::Overdrawn | Refusal::Short | Refusal::NoDeck => 0,
     }
 }
 

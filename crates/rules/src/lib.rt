@@ -5,10 +5,10 @@
 ghost use Rattle.std.specs.Prelude.{◌≡◌, ◌+◌, ◌-◌, ◌*◌, ◌/◌, ◌≤◌};
 ghost use Rattle.rules.specs.Units.{generation, curve_inside, curve_made};
 ghost use Rattle.rules.specs.Group.{based_on, renewed};
-ghost use Rattle.rules.specs.Answers.{curve_answer};
+ghost use Rattle.rules.specs.Answers.{answer_of};
 
 // The curve's start k, its coefficients A, B and C in thousandths, and the rate R. Its fields are closed: `new` alone makes one.
-#[derive(Clone, Copy)]
+#[derive(Clone, Copy, PartialEq, Eq)]
 pub struct HeatCurve {
     k: u32,
     a: u32,
@@ -34,41 +34,22 @@ impl HeatCurve {
     fn inside(k: u32, a: u32, b: u32, c: u32, r: u32) -> bool
         ensures { result ≡ curve_inside (record { k = k; a = a; b = b; c = c; r = r }) }
     {
-        if k < HeatCurve::LEAST_START {
-            return false;
-        }
-        if HeatCurve::MOST_START < k {
-            return false;
-        }
-        if HeatCurve::MOST_A < a {
-            return false;
-        }
-        if HeatCurve::MOST_B < b {
-            return false;
-        }
-        if HeatCurve::MOST_C < c {
-            return false;
-        }
-        if HeatCurve::MOST_RATE < r {
-            return false;
-        }
-        true
+        HeatCurve::LEAST_START <= k
+            && k <= HeatCurve::MOST_START
+            && a <= HeatCurve::MOST_A
+            && b <= HeatCurve::MOST_B
+            && c <= HeatCurve::MOST_C
+            && r <= HeatCurve::MOST_RATE
     }
 
     // A curve only from coefficients within these ranges.
-    pub fn new(k: u32, a: u32, b: u32, c: u32, r: u32) -> CurveAnswer
-        ensures { result ≡ curve_answer (curve_made (record { k = k; a = a; b = b; c = c; r = r })) }
+    pub fn new(k: u32, a: u32, b: u32, c: u32, r: u32) -> Result<HeatCurve, Refusal>
+        ensures { result ≡ answer_of (curve_made (record { k = k; a = a; b = b; c = c; r = r })) }
     {
         if !HeatCurve::inside(k, a, b, c, r) {
-            return CurveAnswer::Refused(Refusal::Range(0));
+            return Err(Refusal::Range(0));
         }
-        CurveAnswer::Made(HeatCurve {
-            k: k,
-            a: a,
-            b: b,
-            c: c,
-            r: r,
-        })
+        Ok(HeatCurve { k, a, b, c, r })
     }
 
     // The same of a curve at hand, for the test of 15: no contract sees that its fields are closed.
@@ -110,7 +91,7 @@ impl HeatCurve {
 }
 
 // A unit's levels, generation, high, normal low, oil point low and emergency low, and its curve.
-#[derive(Clone, Copy)]
+#[derive(Clone, Copy, PartialEq, Eq)]
 pub struct Unit {
     pub g: u32,
     pub h: u32,
@@ -120,7 +101,7 @@ pub struct Unit {
     pub curve: HeatCurve,
 }
 
-#[derive(Clone, Copy)]
+#[derive(Clone, Copy, PartialEq, Eq)]
 pub enum Plant {
     Unit(Unit),
     Purchase { g: u32, rate: u32 },
@@ -140,32 +121,32 @@ impl Plant {
 }
 
 // A label's characters, and zeros after them.
-#[derive(Clone, Copy)]
+#[derive(Clone, Copy, PartialEq, Eq)]
 pub struct Label {
     pub len: u8,
     pub bytes: [u8; 16],
 }
 
-#[derive(Clone, Copy)]
+#[derive(Clone, Copy, PartialEq, Eq)]
 pub struct Source {
     pub plant: Plant,
     pub label: Label,
 }
 
 // The number on a T line; 0 means "to be placed".
-#[derive(Clone, Copy)]
+#[derive(Clone, Copy, PartialEq, Eq, PartialOrd, Ord)]
 pub struct InputSequence(pub u32);
 
-#[derive(Clone, Copy)]
+#[derive(Clone, Copy, PartialEq, Eq, PartialOrd, Ord)]
 pub struct InternalSequence(pub u32);
 
 // What makes a group: deliveries of one key are its members.
-#[derive(Clone, Copy)]
+#[derive(Clone, Copy, PartialEq, Eq)]
 pub struct Key {
     pub number: InternalSequence,
 }
 
-#[derive(Clone, Copy)]
+#[derive(Clone, Copy, PartialEq, Eq)]
 pub struct Delivery {
     pub sequence: InputSequence,
     pub kind: u32,
@@ -174,7 +155,7 @@ pub struct Delivery {
     pub label: Label,
 }
 
-#[derive(Clone, Copy)]
+#[derive(Clone, Copy, PartialEq, Eq)]
 pub enum Basis {
     Low,
     Generation,
@@ -182,7 +163,7 @@ pub enum Basis {
 }
 
 // A D line: which source and which delivery it names, from 0.
-#[derive(Clone, Copy)]
+#[derive(Clone, Copy, PartialEq, Eq)]
 pub struct Direct {
     pub basis: Basis,
     pub percent: u32,
@@ -191,7 +172,7 @@ pub struct Direct {
 }
 
 // One hour; the entries past each count are blank.
-#[derive(Clone, Copy)]
+#[derive(Clone, Copy, PartialEq, Eq)]
 pub struct Hour {
     pub losses: u32,
     pub nsources: usize,
@@ -204,7 +185,7 @@ pub struct Hour {
 
 // A source's running state: its plant, open energy v, directly taken d, basic amount b and whether it is set,
 // and the percent total so far.
-#[derive(Clone, Copy)]
+#[derive(Clone, Copy, PartialEq, Eq)]
 pub struct Running {
     pub plant: Plant,
     pub v: u32,
@@ -233,7 +214,7 @@ impl Running {
 }
 
 // Why a call refuses, 1 to 16 in their order, with the line, the internal number or the record that it names.
-#[derive(Clone, Copy)]
+#[derive(Clone, Copy, PartialEq, Eq)]
 pub enum Refusal {
     TooLong,
     Form(usize),
@@ -251,32 +232,4 @@ pub enum Refusal {
     Short,
     NoDeck,
     FileRecord(usize),
-}
-
-// Answers. Each that can refuse carries the refusal.
-
-#[derive(Clone, Copy)]
-pub enum Verdict {
-    Accepted,
-    Refused(Refusal),
-}
-
-// How many bytes or cells were written.
-#[derive(Clone, Copy)]
-pub enum Written {
-    Count(usize),
-    Refused(Refusal),
-}
-
-#[derive(Clone, Copy)]
-pub enum CurveAnswer {
-    Made(HeatCurve),
-    Refused(Refusal),
-}
-
-// A cost in grains.
-#[derive(Clone, Copy)]
-pub enum CostAnswer {
-    Cost(u64),
-    Refused(Refusal),
 }

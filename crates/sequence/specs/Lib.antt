@@ -1,5 +1,4 @@
-pub mod Columns
+pub mod Matches
 pub mod Placings
-pub mod RuleByRule
 pub mod SameGroups
 pub mod NextKey

@@ -1,80 +1,53 @@
 -- The first key after x that a delivery has: it has a member, and none between has one. It is the next of the turns that are left.
-use Rattle.std.specs.Prelude.{Bool, true, false, not, ◌&&◌, ◌||◌, List, [], ◌∷◌, ◌≡◌, refl, ℕ, suc, ◌+◌, ◌≤◌, ◌<◌}
-use Rattle.std.proofs.Common.{sym, ap, ◌∙◌, add-one, ltb-true, ltb-false, lt-ltb}
+use Rattle.std.specs.Prelude.{Bool, true, false, List, [], ◌∷◌, ◌≡◌, refl, ℕ, zero, suc, ◌≤◌, ◌<◌, length, get_or, take, filter, Contains, Option, Some, None, IfSome, MatchOption}
+use Rattle.std.proofs.Common.{cond, sym, ap, subst, ◌∙◌, ltb-true, lt-ltb, length-take}
 use native.Mathlib.Omega.{arith}
 use Rattle.laws.specs.Choices.{true_not_false}
-use Rattle.laws.specs.Keys.{key_itself, key_other, among, among_first, among_either, Turns, turns_rest, turns_first, first_before}
-use Rattle.rules.specs.Hour.{no_key, key_at, counted, goes_before}
-use Rattle.rules.specs.Words.{when◌then◌else◌, sum_to}
+use Rattle.std.proofs.lemmas.List.{get_or_default, get_or-take}
+use Rattle.laws.specs.Sums.{sum_to_zero}
+use Rattle.laws.specs.Keys.{key_same, found_counted, among, among_first, among_either, Turns, turns_rest, turns_first, first_before}
+use Rattle.rules.specs.Hour.{no_key, key_at, member, counted, goes_before}
+use Rattle.rules.specs.Words.{when◌then◌else◌}
 use Rattle.rules.specs.declared.Key.{Key}
-use Rattle.sequence.specs.declared.NextGroup.{NextGroup}
-
--- whether the best so far, if there is one, comes after y
-abbrev pub farther : NextGroup → Key → Bool
-farther best y = not best.there || goes_before y best.key
-
--- of the best so far and y the one that comes first, where y comes after x
-abbrev pub nearer_of : NextGroup → Key → Key → NextGroup
-nearer_of best y x = when goes_before x y && farther best y then record { there = true; key = y } else best
+use Rattle.std.specs.List.{All}
 
 -- r is the first key after x of the first n deliveries
-pub record Next (ks : List Key) (n : ℕ) (x : Key) (r : NextGroup) : Type 0 where
-  pub after : r.there ≡ true → goes_before x r.key ≡ true
-  pub found : r.there ≡ true → 0 < counted ks r.key n
-  pub none : (y : Key) → goes_before x y ≡ true → (r.there ≡ true → goes_before y r.key ≡ true) → counted ks y n ≡ 0
+pub record Next (ks : List Key) (n : ℕ) (x : Key) (r : Option Key) : Type 0 where
+  pub after : IfSome r (λ k. goes_before x k ≡ true)
+  pub found : IfSome r (λ k. 0 < counted ks k n)
+  pub none : (y : Key) → goes_before x y ≡ true → IfSome r (λ k. goes_before y k ≡ true) → counted ks y n ≡ 0
 
-pub next_start : (ks : List Key) (x : Key) → Next ks 0 x (record { there = false; key = no_key })
-unfolding sum_to
-next_start ks x = record { after = λ e. (let z : ◌≡◌ {A = ℕ} 0 1 = cc in absurd (omega arith)); found = λ e. (let z : ◌≡◌ {A = ℕ} 0 1 = cc in absurd (omega arith)); none = λ y l f. refl }
+-- what holds of all that pass
+all_filtered : (p : Key → Bool) (P : Key → Type 0) (xs : List Key) → All P (filter p xs) → (j : ℕ) (d : Key) → j < length xs → p (get_or xs j d) ≡ true → P (get_or xs j d)
+all_filtered p P [] h j d l e = absurd (omega arith)
+all_filtered p P (x ∷ xs) h zero d l e = (rw e at h) 0 d (omega arith)
+all_filtered p P (x ∷ xs) h (suc j) d l e = all_filtered p P xs (rest (p x) h) j d (omega arith) e
+  where
+    rest : (b : Bool) → All P (cond b (x ∷ filter p xs) (filter p xs)) → All P (filter p xs)
+    rest true h = λ k d l. h (suc k) d (omega arith)
+    rest false h = h
 
-pub next_end : (ks : List Key) (x : Key) (n j : ℕ) (r : NextGroup) → j ≤ n → n ≤ j → Next ks j x r → Next ks n x r
-next_end ks x n j r a b h = let e : j ≡ n = omega arith in rw e at h
-
--- one delivery more
-module _ (ks : List Key) (x : Key) (n : ℕ) (best : NextGroup) (h : Next ks n x best) where
-  abbrev y : Key
-  y = key_at ks n
-
-  -- a number that delivery n has not is counted as before
-  other : (z : Key) → (y.number.0 ≡ z.number.0 → ⊥) → counted ks z n ≡ 0 → counted ks z (suc n) ≡ 0
-  unfolding sum_to
-  other z f e = rw (key_other y z f) (omega arith)
-
-  itself : 0 < counted ks y (suc n)
-  unfolding sum_to
-  itself = rw (key_itself y) (omega arith)
-
-  still : (z : Key) → 0 < counted ks z n → 0 < counted ks z (suc n)
-  unfolding sum_to
-  still z l = omega arith
-
-  apart : (z w : Key) → goes_before w z ≡ true → z.number.0 < w.number.0
-  apart z w e = ltb-true z.number.0 w.number.0 e
-
-  kept : ((z : Key) → goes_before x z ≡ true → (best.there ≡ true → goes_before z best.key ≡ true) → y.number.0 ≡ z.number.0 → ⊥) → Next ks (suc n) x best
-  kept f = record { after = h.after; found = λ e. still best.key (h.found e); none = λ z l g. other z (f z l g) (h.none z l g) }
-
-  taken : goes_before x y ≡ true → (best.there ≡ true → goes_before y best.key ≡ true) → Next ks (suc n) x (record { there = true; key = y })
-  taken e f = record {
-    after = λ t. e;
-    found = λ t. itself;
-    none = λ z l g.
-        let a = apart y z (g refl) in
-        other z (λ q. omega arith) (h.none z l (λ t. lt-ltb best.key.number.0 z.number.0 (omega (arith, apart best.key y (f t)))));
-  }
-
-  step : Next ks (suc n) x (nearer_of best y x)
-  step = go (goes_before x y) best.there (goes_before y best.key) refl refl refl
+-- the last of those of the first n that x goes before, or none where there is none
+module _ (ks : List Key) (n : ℕ) (x : Key) where
+  counted_none : (P : Key → Type 0) → All P (filter (goes_before x) (take n ks)) → n ≤ length ks → (y : Key) → goes_before x y ≡ true → (P y → ⊥) → counted ks y n ≡ 0
+  counted_none P h l y a f = sum_to_zero n _ (λ j m. go j m (member ks y j) refl)
     where
-      go : (a t b : Bool) → goes_before x y ≡ a → best.there ≡ t → goes_before y best.key ≡ b →
-          Next ks (suc n) x (when a && (not t || b) then record { there = true; key = y } else best)
-      go false t b e f g = kept (λ z l k q. omega (arith, ltb-false y.number.0 x.number.0 e, apart z x l))
-      go true true false e f g = kept (λ z l k q. omega (arith, ltb-false best.key.number.0 y.number.0 g, apart best.key z (k f)))
-      go true true true e f g = taken e (λ t. g)
-      go true false b e f g = taken e (λ t. (let z : ◌≡◌ {A = ℕ} 0 1 = cc in absurd (omega arith)))
+      go : (j : ℕ) → j < n → (b : Bool) → member ks y j ≡ b → ◌≡◌ {A = ℕ} (when b then 1 else 0) 0
+      go j m false e = refl
+      go j m true e =
+          let same : get_or (take n ks) j no_key ≡ y = get_or-take n ks j no_key m ∙ key_same (key_at ks j) y e in
+          absurd (f (subst P same (all_filtered (goes_before x) P (take n ks) h j no_key (omega (arith, length-take n ks)) (ap (goes_before x) same ∙ a))))
 
-  pub next_more : (r : NextGroup) → r ≡ nearer_of best y x → Next ks (n + 1) x r
-  next_more r e = rw (add-one n, e) step
+  pub next_found : n ≤ length ks → (r : Option Key) → IfSome r (Contains (take n ks)) → IfSome r (λ k. goes_before x k ≡ true)
+      → MatchOption r (filter (goes_before x) (take n ks) ≡ []) (λ k. All (λ y. y.number.0 ≤ k.number.0) (filter (goes_before x) (take n ks))) → Next ks n x r
+  next_found l None c a f = record { after = tt; found = tt; none = λ y g h. counted_none (λ z. ⊥) (rw f (λ k d m. absurd (omega arith))) l y g (λ z. z) }
+  next_found l (Some k) c a f = record {
+    after = a;
+    found =
+        let m : c.0 < n = omega (arith, length-take n ks, c.1) in
+        found_counted ks k n (record { at = c.0; within = omega arith; is = get_or_default ks c.0 no_key k (omega arith) ∙ sym (get_or-take n ks c.0 k m) ∙ c.2 }) m;
+    none = λ y g h. counted_none (λ z. z.number.0 ≤ k.number.0) f l y g (λ z. omega (arith, z, ltb-true k.number.0 y.number.0 h));
+  }
 
 -- The turns that are left.
 
@@ -84,10 +57,9 @@ pub record Coming (ks : List Key) (n : ℕ) (x : Key) (xs : List Key) : Type 0 w
   pub after : (y : Key) → among xs y ≡ true → goes_before x y ≡ true
   pub all : (y : Key) → 0 < counted ks y n → goes_before x y ≡ true → among xs y ≡ true
 
-pub coming_none : (ks : List Key) (n : ℕ) (x : Key) (xs : List Key) (r : NextGroup) → Coming ks n x xs → Next ks n x r → r.there ≡ false → xs ≡ []
-coming_none ks n x [] r c f e = refl
-coming_none ks n x (y ∷ ys) r c f e =
-    absurd (omega (arith, turns_first ks n y ys c.turns, f.none y (c.after y (among_first y ys)) (λ g. true_not_false (sym g ∙ e))))
+pub coming_none : (ks : List Key) (n : ℕ) (x : Key) (xs : List Key) → Coming ks n x xs → Next ks n x None → xs ≡ []
+coming_none ks n x [] c f = refl
+coming_none ks n x (y ∷ ys) c f = absurd (omega (arith, turns_first ks n y ys c.turns, f.none y (c.after y (among_first y ys)) tt))
 
 -- the next one, and those after it
 pub record First (ks : List Key) (n : ℕ) (y : Key) (xs : List Key) : Type 0 where
@@ -95,17 +67,17 @@ pub record First (ks : List Key) (n : ℕ) (y : Key) (xs : List Key) : Type 0 wh
   pub is : xs ≡ y ∷ ys
   pub rest : Coming ks n y ys
 
-pub coming_next : (ks : List Key) (n : ℕ) (x : Key) (xs : List Key) (r : NextGroup) → Coming ks n x xs → Next ks n x r → r.there ≡ true → First ks n r.key xs
-coming_next ks n x [] r c f e = true_not_false (sym (c.all r.key (f.found e) (f.after e)))
-coming_next ks n x (y ∷ ys) r c f e = record { ys = ys; is = ap (λ (z : Key). z ∷ ys) (sym same); rest = rw same left }
+pub coming_next : (ks : List Key) (n : ℕ) (x : Key) (xs : List Key) (k : Key) → Coming ks n x xs → Next ks n x (Some k) → First ks n k xs
+coming_next ks n x [] k c f = true_not_false (sym (c.all k f.found f.after))
+coming_next ks n x (y ∷ ys) k c f = record { ys = ys; is = ap (λ (z : Key). z ∷ ys) (sym same); rest = rw same left }
   where
-    here : among (y ∷ ys) r.key ≡ true
-    here = c.all r.key (f.found e) (f.after e)
+    here : among (y ∷ ys) k ≡ true
+    here = c.all k f.found f.after
 
     -- nothing that has a member stands before it
-    same : r.key ≡ y
-    same = among_either (r.key ≡ y) y ys r.key here (λ q. q)
-        (λ q. absurd (omega (arith, turns_first ks n y ys c.turns, f.none y (c.after y (among_first y ys)) (λ g. lt-ltb r.key.number.0 y.number.0 (first_before y ys c.turns.ordered r.key q)))))
+    same : k ≡ y
+    same = among_either (k ≡ y) y ys k here (λ q. q)
+        (λ q. absurd (omega (arith, turns_first ks n y ys c.turns, f.none y (c.after y (among_first y ys)) (lt-ltb k.number.0 y.number.0 (first_before y ys c.turns.ordered k q)))))
 
     left : Coming ks n y ys
     left = record {

@@ -9,14 +9,13 @@ mod settling;
 ghost use Rattle.std.specs.Prelude.{◌<◌};
 
 use rules::{
-    Basis, CurveAnswer, Delivery, Direct, HeatCurve, Hour, InputSequence, Label, Plant, Source,
-    Unit, Verdict, Written,
+    Basis, Delivery, Direct, HeatCurve, Hour, InputSequence, Label, Plant, Refusal, Source, Unit,
 };
 
-fn answer_code(x: Written) -> u64 {
+fn answer_code(x: Result<usize, Refusal>) -> u64 {
     match x {
-        Written::Count(n) => n as u64,
-        Written::Refused(r) => refusals::code_of(r),
+        Ok(n) => n as u64,
+        Err(r) => refusals::code_of(r),
     }
 }
 
@@ -29,12 +28,9 @@ fn answered(h: Hour, out: &mut [i64], by_price: bool) -> u64 {
 
 #[unsafe(no_mangle)]
 pub extern "C" fn trial_cells(deck: &[u8], by_price: bool, out: &mut [i64]) -> u64 {
-    let x = deck::read(deck);
-    let v = x.verdict;
-    let h = x.hour;
-    match v {
-        Verdict::Accepted => answered(h, out, by_price),
-        Verdict::Refused(r) => refusals::code_of(r),
+    match deck::read(deck) {
+        Ok(h) => answered(h, out, by_price),
+        Err(r) => refusals::code_of(r),
     }
 }
 
@@ -44,12 +40,9 @@ fn written(h: Hour, out: &mut [u8]) -> u64 {
 
 #[unsafe(no_mangle)]
 pub extern "C" fn trial_written(deck: &[u8], out: &mut [u8]) -> u64 {
-    let x = deck::read(deck);
-    let v = x.verdict;
-    let h = x.hour;
-    match v {
-        Verdict::Accepted => written(h, out),
-        Verdict::Refused(r) => refusals::code_of(r),
+    match deck::read(deck) {
+        Ok(h) => written(h, out),
+        Err(r) => refusals::code_of(r),
     }
 }
 
@@ -59,16 +52,47 @@ fn filed(h: Hour, out: &mut [u8]) -> u64 {
 
 #[unsafe(no_mangle)]
 pub extern "C" fn trial_spreadsheet(deck: &[u8], out: &mut [u8]) -> u64 {
-    let x = deck::read(deck);
-    let v = x.verdict;
-    let h = x.hour;
-    match v {
-        Verdict::Accepted => filed(h, out),
-        Verdict::Refused(r) => refusals::code_of(r),
+    match deck::read(deck) {
+        Ok(h) => filed(h, out),
+        Err(r) => refusals::code_of(r),
     }
 }
 
 // Spoiled records: each field out of its range, so that no deck gives the record.
+
+// The hour of a deck; a blank one where it is refused.
+fn hour_of(deck: &[u8]) -> Hour {
+    let label = Label {
+        len: 0,
+        bytes: [0; 16],
+    };
+    match deck::read(deck) {
+        Ok(h) => h,
+        Err(_) => Hour {
+            losses: 0,
+            nsources: 0,
+            ndeliveries: 0,
+            ndirects: 0,
+            sources: [Source {
+                plant: Plant::Fixed { g: 0 },
+                label,
+            }; 32],
+            deliveries: [Delivery {
+                sequence: InputSequence(0),
+                kind: 0,
+                block: 0,
+                mwh: 0,
+                label,
+            }; 32],
+            directs: [Direct {
+                basis: Basis::Low,
+                percent: 0,
+                source: 0,
+                delivery: 0,
+            }; 32],
+        },
+    }
+}
 
 fn spoiled_label(l: Label, field: usize) -> Label {
     let mut b = l.bytes;
@@ -93,7 +117,7 @@ fn spoiled_label(l: Label, field: usize) -> Label {
 fn late_unit(u: Unit) -> Unit {
     let mut x = u;
     let c = u.curve;
-    let CurveAnswer::Made(late) = HeatCurve::new(2000, c.a(), c.b(), c.c(), c.r()) else {
+    let Ok(late) = HeatCurve::new(2000, c.a(), c.b(), c.c(), c.r()) else {
         x.g = 2001;
         return x;
     };
@@ -264,8 +288,7 @@ pub extern "C" fn trial_spoiled(
     by_price: bool,
     out: &mut [i64],
 ) -> u64 {
-    let x = deck::read(deck);
-    answered(spoiled(x.hour, field, at % 32), out, by_price)
+    answered(spoiled(hour_of(deck), field, at % 32), out, by_price)
 }
 
 #[unsafe(no_mangle)]
@@ -275,8 +298,7 @@ pub extern "C" fn trial_spoiled_written(
     at: usize,
     out: &mut [u8],
 ) -> u64 {
-    let x = deck::read(deck);
-    written(spoiled(x.hour, field, at % 32), out)
+    written(spoiled(hour_of(deck), field, at % 32), out)
 }
 
 #[unsafe(no_mangle)]
@@ -286,30 +308,23 @@ pub extern "C" fn trial_spoiled_spreadsheet(
     at: usize,
     out: &mut [u8],
 ) -> u64 {
-    let x = deck::read(deck);
-    filed(spoiled(x.hour, field, at % 32), out)
+    filed(spoiled(hour_of(deck), field, at % 32), out)
 }
 
 // The hour's cells so many times over: 0 where the deck is refused.
 #[unsafe(no_mangle)]
 pub extern "C" fn trial_price(deck: &[u8], out: &mut [i64], times: usize) -> u64 {
-    let x = deck::read(deck);
-    let v = x.verdict;
-    let h = x.hour;
-    match v {
-        Verdict::Accepted => rebuilding::rebuild_often(h, out, true, times),
-        Verdict::Refused(_) => 0,
+    match deck::read(deck) {
+        Ok(h) => rebuilding::rebuild_often(h, out, true, times),
+        Err(_) => 0,
     }
 }
 
 #[unsafe(no_mangle)]
 pub extern "C" fn trial_plain(deck: &[u8], out: &mut [i64], times: usize) -> u64 {
-    let x = deck::read(deck);
-    let v = x.verdict;
-    let h = x.hour;
-    match v {
-        Verdict::Accepted => rebuilding::rebuild_often(h, out, false, times),
-        Verdict::Refused(_) => 0,
+    match deck::read(deck) {
+        Ok(h) => rebuilding::rebuild_often(h, out, false, times),
+        Err(_) => 0,
     }
 }
 
@@ -323,11 +338,8 @@ pub extern "C" fn trial_settle(
     times: usize,
     levels: &mut [u64],
 ) -> u64 {
-    let x = deck::read(deck);
-    let v = x.verdict;
-    let h = x.hour;
-    match v {
-        Verdict::Accepted => settling::settle_often(h, total, took, by_price, times, levels),
-        Verdict::Refused(_) => 0,
+    match deck::read(deck) {
+        Ok(h) => settling::settle_often(h, total, took, by_price, times, levels),
+        Err(_) => 0,
     }
 }

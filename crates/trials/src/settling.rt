@@ -3,21 +3,15 @@ ghost use Rattle.std.specs.Prelude.{◌≡◌, map};
 ghost use Rattle.rules.specs.Group.{opened};
 ghost use Rattle.ladder.specs.Ready.{AllReady};
 
-use group::Settled;
-use rules::{Hour, InternalSequence, Plant, Running, Source, Verdict};
+use rules::{Hour, InternalSequence, Running, Source};
 
 // Every source at the hour's start.
 fn open_all(sources: [Source; 32]) -> [Running; 32]
     ensures { result ≡ map (λ s. opened s.plant) sources }
 {
-    let blank = groups::open(Plant::Fixed { g: 0 });
-    let mut states = [blank; 32];
-    let mut i = 0;
-    while i < 32 {
-        let s = sources[i];
-        let p = s.plant;
-        states[i] = groups::open(p);
-        i += 1;
+    let mut states = groups::blank_states();
+    for i in 0..32 {
+        states[i] = groups::open(sources[i].plant);
     }
     states
 }
@@ -34,27 +28,21 @@ fn repeat(
     requires { AllReady states n }
 {
     let mut sum: u64 = 1;
-    let mut turn: usize = 0;
-    while turn < times {
-        let end = group::settle(InternalSequence(0), n, total, took, states, by_price);
-        let at = turn % 32;
-        let s = end.states[at];
-        sum = std::num::wrapping_add_u64(sum, s.v as u64);
-        turn += 1;
+    for turn in 0..times {
+        let mut after = states;
+        let _ = group::settle(InternalSequence(0), n, total, took, by_price, &mut after);
+        sum = std::num::wrapping_add_u64(sum, after[turn % 32].v as u64);
     }
     sum
 }
 
 // The level of each source, where 32 are lent.
-fn put_levels(end: Settled, levels: &mut [u64]) {
+fn put_levels(states: &[Running; 32], levels: &mut [u64]) {
     if levels.len() < 32 {
         return;
     }
-    let mut i: usize = 0;
-    while i < 32 {
-        let s = end.states[i];
-        levels[i] = s.v as u64;
-        i += 1;
+    for i in 0..32 {
+        levels[i] = states[i].v as u64;
     }
 }
 
@@ -72,18 +60,17 @@ pub fn settle_often(
     }
     let sources = h.sources;
     let states = open_all(sources);
-    let end = group::settle(
+    let mut after = states;
+    let Ok(()) = group::settle(
         InternalSequence(0),
         h.nsources,
         total,
         took,
-        states,
         by_price,
-    );
-    let verdict = end.verdict;
-    let Verdict::Accepted = verdict else {
+        &mut after,
+    ) else {
         return 0;
     };
-    put_levels(end, levels);
+    put_levels(&after, levels);
     repeat(states, h.nsources, total, took, by_price, times)
 }

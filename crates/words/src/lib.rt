@@ -1,4 +1,4 @@
-// A refusal in words, for a clerk: what is wrong, where, what was found there and what to do. The tables of all words are in `table`, what is found is told by `findings`.
+// A refusal in words, for a clerk: what is wrong, where, what was found there and what to do. All words are in `table`, what is found is told by `findings`.
 // No contract says which words: that is tested. What is refused is decided by the proved reader and the proved groups.
 #![tactic(auto)]
 
@@ -8,253 +8,197 @@ mod text;
 ghost use Rattle.std.specs.Prelude.{◌≡◌, true, ◌≤◌, length};
 ghost use Rattle.rules.specs.Writing.{valid};
 
-use deck::{Place, ScannedDeck};
-use findings::lines::Span;
-use findings::{Found, counted, entries, form, lines, outside, records, said, sentences, shortage};
-use rules::{Key, Refusal, Verdict};
-use text::{put_byte, put_part};
+use deck::ScannedDeck;
+use findings::form::Letter;
+use findings::{Found, Part, entries, form, lines, outside, records, shortage};
+use read_fields::Place;
+use rules::{InternalSequence, Key, Refusal};
+use std::fmt;
+use std::fmt::Write;
+use text::Text;
 
 // The most bytes of a line that are shown.
 const MOST_SHOWN: usize = 80;
 
-// One piece of what the words stand between.
-fn put_piece(out: &mut [u8], at: usize, piece: usize) -> usize {
-    table::put_frame(out, at, said(piece))
-}
-
-// The one refusal of a spreadsheet file.
-const FILE_RECORD: usize = 16;
-
-fn head_words(number: usize, place: usize) -> usize {
-    if place == 0 {
-        return table::REFUSED;
-    }
-    if number < 12 {
-        return table::REFUSED_LINE;
-    }
-    if number == FILE_RECORD {
-        return table::REFUSED_RECORD;
-    }
-    table::REFUSED_GROUP
-}
-
 // The first line: number, place, and what is wrong.
-fn put_head(out: &mut [u8], at: usize, number: usize, place: usize) -> usize {
-    let x = counted(head_words(number, place), number as u64, place as u64);
-    let p = table::put_frame(out, at, x);
-    let q = table::put_when(out, p, number);
-    put_byte(out, q, b'\n')
+fn put_head(text: &mut Text, r: Refusal) -> fmt::Result {
+    write!(text, "refused {}", refusals::number_of(r))?;
+    let place = refusals::place_of(r);
+    if place != 0 {
+        write!(text, ", {} {place}", table::place(r))?;
+    }
+    writeln!(text, ": {}", table::when(r))
 }
 
 // The last line: what to do.
-fn put_tail(out: &mut [u8], at: usize, number: usize) -> usize {
-    let p = put_piece(out, at, table::ADVICE);
-    let q = table::put_advice(out, p, number);
-    put_byte(out, q, b'\n')
+fn put_tail(text: &mut Text, r: Refusal) -> fmt::Result {
+    writeln!(text, "what to do: {}", table::advice(r))
 }
 
-// What was found, where there are words for it.
-fn put_found(out: &mut [u8], at: usize, s: &[u8], x: Found) -> usize {
-    if x.words == 0 {
-        return at;
-    }
-    let p = put_piece(out, at, table::FOUND);
-    let q = table::put_found(out, p, s, x);
-    put_byte(out, q, b'\n')
+fn put_found(text: &mut Text, x: Found) -> fmt::Result {
+    text.write_str("found: ")?;
+    table::put_found(text, x)?;
+    text.write_str("\n")
 }
 
-// The bytes of a line, a long one cut.
-fn put_bytes(out: &mut [u8], at: usize, s: &[u8], from: usize, upto: usize) -> usize {
-    if upto <= from {
-        return put_piece(out, at, table::EMPTY);
+// What was found, where something was.
+fn put_any(text: &mut Text, found: Option<Found>) -> fmt::Result {
+    match found {
+        Some(x) => put_found(text, x),
+        None => Ok(()),
     }
-    if upto - from <= MOST_SHOWN {
-        return put_part(out, at, s, from, upto);
-    }
-    let p = put_part(out, at, s, from, from + MOST_SHOWN);
-    put_piece(out, p, table::CUT)
 }
 
-// A line of the deck, or a record of the file, after a piece that says so; nothing where deck or file ends before it.
-fn put_line(out: &mut [u8], at: usize, piece: usize, s: &[u8], line: Span) -> usize {
-    if s.len() <= line.from {
-        return at;
+// The bytes of a line or a record, a long one cut; nothing where deck or file ends before it.
+fn put_shown(text: &mut Text, what: &str, line: &[u8], bytes: &[u8]) -> fmt::Result {
+    if line.is_empty() {
+        return Ok(());
     }
-    let p = put_piece(out, at, piece);
-    let q = put_bytes(out, p, s, line.from, line.upto);
-    put_byte(out, q, b'\n')
+    write!(text, "the {what}: ")?;
+    match bytes.split_at_checked(MOST_SHOWN) {
+        Some((front, [_, ..])) => writeln!(text, "{} ..", Part(front)),
+        _ if bytes.is_empty() => text.write_str("(empty)\n"),
+        _ => writeln!(text, "{}", Part(bytes)),
+    }
 }
 
-// The form of the line at a place, where its letter has one.
-fn put_form(out: &mut [u8], at: usize, s: &[u8], from: usize) -> usize {
-    let letter = form::letter_place(lines::peek(s, from));
-    if letter == 0 {
-        return at;
+// The form of a line, where its letter has one.
+fn put_form(text: &mut Text, line: &[u8]) -> fmt::Result {
+    match line.first().copied().and_then(Letter::of) {
+        Some(letter) => writeln!(text, "its form: {}", table::form(letter)),
+        None => Ok(()),
     }
-    let p = table::put_form(out, at, letter);
-    put_byte(out, p, b'\n')
 }
 
-// What was found on line k, which starts at a place.
-fn line_found(s: &[u8], number: usize, k: usize, from: usize) -> Found {
-    match number {
-        2 => form::found(s, k, from),
-        3 => outside::found(lines::entry_at(s, from)),
-        _ => entries::found(s, number, k, from),
+// What was found on a line, below the lines above it.
+fn line_found<'a>(above: &'a [u8], line: &'a [u8], r: Refusal) -> Option<Found<'a>> {
+    match r {
+        Refusal::Form(_) => Some(form::found(above, line)),
+        Refusal::Unplaced(_) => Some(Found::Unplaced),
+        Refusal::Range(_) => Some(Found::Outside(outside::found(lines::entry_of(line)?)?)),
+        _ => entries::found(above, lines::entry_of(line)?, r),
     }
 }
 
 // What more there is to say of it.
-fn put_more(out: &mut [u8], at: usize, s: &[u8], number: usize, k: usize, from: usize) -> usize {
-    if number == 2 {
-        return put_form(out, at, s, from);
+fn put_more(text: &mut Text, above: &[u8], line: &[u8], r: Refusal) -> fmt::Result {
+    match r {
+        Refusal::Form(_) => put_form(text, line),
+        Refusal::Names(_) => put_any(text, entries::no_delivery(above, line)),
+        _ => Ok(()),
     }
-    if number == 7 {
-        return put_found(out, at, s, entries::no_delivery(s, k, from));
-    }
-    at
 }
 
-fn put_refused_line(out: &mut [u8], at: usize, s: &[u8], number: usize, k: usize) -> usize {
-    let line = lines::line_at(s, k);
-    let from = line.from;
-    let p = put_line(out, at, table::THE_LINE, s, line);
-    let q = put_found(out, p, s, line_found(s, number, k, from));
-    put_more(out, q, s, number, k, from)
+fn put_line(text: &mut Text, deck: &[u8], r: Refusal) -> fmt::Result {
+    let (above, line) = lines::line_at(deck, refusals::place_of(r));
+    put_shown(text, "line", line, lines::text_of(line))?;
+    put_any(text, line_found(above, line, r))?;
+    put_more(text, above, line, r)
 }
 
 // What was found in a deck that is refused where it is read.
-fn put_reading(out: &mut [u8], at: usize, s: &[u8], number: usize, place: usize) -> usize {
-    if number == 10 {
-        return put_found(out, at, s, entries::sums(s));
-    }
-    if place == 0 {
-        return at;
-    }
-    put_refused_line(out, at, s, number, place)
-}
-
-fn number_of(r: Refusal) -> usize {
-    refusals::number_of(r) as usize
-}
-
-fn put_refused(out: &mut [u8], s: &[u8], r: Refusal) -> usize {
-    let number = number_of(r);
-    let place = refusals::place_of(r);
-    let p = put_head(out, 0, number, place);
-    let q = put_reading(out, p, s, number, place);
-    put_tail(out, q, number)
-}
-
-fn group_of(r: Refusal) -> u32 {
+fn put_reading(text: &mut Text, deck: &[u8], r: Refusal) -> fmt::Result {
     match r {
-        Refusal::NoRoom(x) => x.0,
-        Refusal::NoHeadroom(x) => x.0,
-        _ => 0,
+        Refusal::TooLong => Ok(()),
+        Refusal::Overdrawn => put_found(text, entries::sums(deck)),
+        _ => put_line(text, deck, r),
     }
 }
 
-// A label between quotes after a space, for one of the group's deliveries.
-fn put_member(out: &mut [u8], at: usize, s: &[u8], place: Place, is: bool) -> usize {
-    if !is {
-        return at;
-    }
-    let p = put_byte(out, at, b' ');
-    let q = put_byte(out, p, b'"');
-    let r = put_part(out, q, s, place.from, place.upto);
-    put_byte(out, r, b'"')
+fn put_refused(text: &mut Text, deck: &[u8], r: Refusal) -> fmt::Result {
+    put_head(text, r)?;
+    put_reading(text, deck, r)?;
+    put_tail(text, r)
 }
 
-// The labels of all of them.
-fn put_labels(
-    out: &mut [u8],
-    at: usize,
-    s: &[u8],
-    places: [Place; 32],
-    keys: [Key; 32],
-    m: usize,
-    group: u32,
-) -> usize {
-    let mut p = at;
-    let mut j: usize = 0;
-    while j < 32 {
-        let key = keys[j];
-        let place = places[j];
-        p = put_member(out, p, s, place, shortage::is_member(key, j, m, group));
-        j += 1;
-    }
-    p
-}
-
-// How many MWh a group is short of, and its deliveries.
+// How many MWh a group is short of, and the labels of its deliveries.
 fn put_short(
-    out: &mut [u8],
-    at: usize,
-    s: &[u8],
-    places: [Place; 32],
-    keys: [Key; 32],
-    m: usize,
-    group: u32,
+    text: &mut Text,
+    deck: &[u8],
+    places: &[Place],
+    keys: &[Key],
+    group: InternalSequence,
     short: u64,
-) -> usize {
-    let p = put_piece(out, at, table::FOUND);
-    let q = table::put_found(out, p, s, counted(sentences::SHORT, short, 0));
-    let r = put_labels(out, q, s, places, keys, m, group);
-    put_byte(out, r, b'\n')
+) -> fmt::Result {
+    text.write_str("found: ")?;
+    table::put_found(text, Found::Short(short))?;
+    for (place, key) in places.iter().zip(keys) {
+        if key.number == group {
+            write!(text, " \"{}\"", lines::part(deck, *place))?;
+        }
+    }
+    text.write_str("\n")
 }
 
 // A deck whose hour is reconstructed: nothing, or the group that is refused.
-fn put_hour(out: &mut [u8], s: &[u8], x: ScannedDeck) -> usize
+fn put_hour(text: &mut Text, deck: &[u8], x: ScannedDeck) -> fmt::Result
     requires { valid x.hour ≡ true }
 {
     let h = x.hour;
-    let deliveries = h.deliveries;
     let m = h.ndeliveries;
-    let keys = sequence::keys(deliveries, m);
-    let mut mwhs: [u64; 32] = [0; 32];
-    members::list_mwhs(deliveries, m, &mut mwhs);
-    let mut led: [u64; 32] = [0; 32];
-    let mut kept: [u64; 1024] = [0; 1024];
-    let end = groups::take_turns(h, keys, true, &mwhs, &mut led, &mut kept);
-    let verdict = end.verdict;
-    let Verdict::Refused(r) = verdict else {
-        return 0;
+    let keys = sequence::keys(&h.deliveries, m);
+    let mwhs = members::list_mwhs(&h.deliveries, m);
+    let mut led = [0; 32];
+    let mut kept = [0; 1024];
+    let mut states = groups::blank_states();
+    let Err(r) = groups::take_turns(h, keys, true, &mwhs, &mut led, &mut kept, &mut states) else {
+        return Ok(());
     };
-    let states = end.states;
-    let number = number_of(r);
-    let group = group_of(r);
-    let short = shortage::short_of(keys, m, group, &mwhs, &kept, states, h.nsources);
-    let p = put_head(out, 0, number, refusals::place_of(r));
-    let places = x.deliveries;
-    let q = put_short(out, p, s, places, keys, m, group, short);
-    put_tail(out, q, number)
+    let (Refusal::NoRoom(group) | Refusal::NoHeadroom(group)) = r else {
+        return Ok(());
+    };
+    let short = shortage::short_of(group, &keys, &mwhs, &kept, &states);
+    put_head(text, r)?;
+    put_short(text, deck, &x.deliveries, &keys, group, short)?;
+    put_tail(text, r)
 }
 
-fn put_deck(out: &mut [u8], s: &[u8]) -> usize {
-    let x = deck::scan(s);
-    let verdict = x.verdict;
-    match verdict {
-        Verdict::Refused(r) => put_refused(out, s, r),
-        Verdict::Accepted => put_hour(out, s, x),
+fn put_deck(text: &mut Text, deck: &[u8]) -> fmt::Result {
+    match deck::scan(deck) {
+        Ok(x) => put_hour(text, deck, x),
+        Err(r) => put_refused(text, deck, r),
     }
 }
 
 // A file that is refused for its record k.
-fn put_file(out: &mut [u8], s: &[u8], k: usize) -> usize {
-    let p = put_head(out, 0, FILE_RECORD, k);
-    let q = put_line(out, p, table::THE_RECORD, s, records::record_at(s, k));
-    let r = put_found(out, q, s, records::found(s, k));
-    put_tail(out, r, FILE_RECORD)
+fn put_file(text: &mut Text, file: &[u8], k: usize) -> fmt::Result {
+    let r = Refusal::FileRecord(k);
+    put_head(text, r)?;
+    let (above, record) = lines::line_at(file, k);
+    put_shown(text, "record", record, records::text_of(record))?;
+    put_any(text, records::found(above, record))?;
+    put_tail(text, r)
 }
 
-// Never more than there is room for.
-fn within(n: usize, room: usize) -> usize
-    ensures { result ≤ room }
-{
-    if room < n {
-        return room;
+// A refusal of a number, without its place.
+fn refusal_of(number: usize) -> Option<Refusal> {
+    match number {
+        1 => Some(Refusal::TooLong),
+        2 => Some(Refusal::Form(0)),
+        3 => Some(Refusal::Range(0)),
+        4 => Some(Refusal::Full(0)),
+        5 => Some(Refusal::Used(0)),
+        6 => Some(Refusal::Levels(0)),
+        7 => Some(Refusal::Names(0)),
+        8 => Some(Refusal::OtherBasis(0)),
+        9 => Some(Refusal::Percents(0)),
+        10 => Some(Refusal::Overdrawn),
+        11 => Some(Refusal::Unplaced(0)),
+        12 => Some(Refusal::NoRoom(InternalSequence(0))),
+        13 => Some(Refusal::NoHeadroom(InternalSequence(0))),
+        14 => Some(Refusal::Short),
+        15 => Some(Refusal::NoDeck),
+        16 => Some(Refusal::FileRecord(0)),
+        _ => None,
     }
-    n
+}
+
+fn put_number(text: &mut Text, number: usize) -> fmt::Result {
+    let Some(r) = refusal_of(number) else {
+        return Ok(());
+    };
+    put_head(text, r)?;
+    put_tail(text, r)
 }
 
 // More bytes than the words of any refusal have.
@@ -265,26 +209,19 @@ pub const WORDS: usize = 4096;
 pub fn explain(s: &[u8], out: &mut [u8]) -> usize
     ensures { result ≤ length out.old }
 {
-    let room = out.len();
-    let n = put_deck(out, s);
-    within(n, room)
+    text::put(out, |text| put_deck(text, s))
 }
 
 // The words of a spreadsheet file's refusal, 16 at record k, in the same way.
 pub fn explain_record(file: &[u8], k: usize, out: &mut [u8]) -> usize
     ensures { result ≤ length out.old }
 {
-    let room = out.len();
-    let n = put_file(out, file, k);
-    within(n, room)
+    text::put(out, |text| put_file(text, file, k))
 }
 
 // The words of a refusal by its number alone: for a deck that is not at hand.
 pub fn explain_number(number: usize, out: &mut [u8]) -> usize
     ensures { result ≤ length out.old }
 {
-    let room = out.len();
-    let p = put_head(out, 0, number, 0);
-    let n = put_tail(out, p, number);
-    within(n, room)
+    text::put(out, |text| put_number(text, number))
 }

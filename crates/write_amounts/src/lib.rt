@@ -33,14 +33,7 @@ fn put_signed(buf: &mut [u8], at: usize, lead: u8, v: i64) -> usize
 fn are_zero(amounts: &[i64]) -> bool
     ensures { result ≡ true → AllZero amounts.now }
 {
-    let mut i = 0;
-    while i < amounts.len() {
-        if amounts[i] != 0 {
-            return false;
-        }
-        i += 1;
-    }
-    true
+    amounts.iter().all(|v| *v == 0)
 }
 
 // n amounts of 0, each after its byte.
@@ -49,10 +42,8 @@ fn put_zeros(buf: &mut [u8], at: usize, lead: u8, n: usize) -> usize
     ensures { Inked buf.old at buf.new result (zeros_after lead n) }
 {
     let mut p = at;
-    let mut i = 0;
-    while i < n {
+    for _ in 0..n {
         p = write_fields::put_two(buf, p, lead, b'0');
-        i += 1;
     }
     p
 }
@@ -66,10 +57,8 @@ pub fn put_amounts(buf: &mut [u8], at: usize, lead: u8, amounts: &[i64]) -> usiz
         return put_zeros(buf, at, lead, amounts.len());
     }
     let mut p = at;
-    let mut i = 0;
-    while i < amounts.len() {
-        p = put_signed(buf, p, lead, amounts[i]);
-        i += 1;
+    for v in amounts {
+        p = put_signed(buf, p, lead, *v);
     }
     p
 }
@@ -91,10 +80,8 @@ pub fn amounts_length(amounts: &[i64]) -> usize
     ensures { result ≡ amounts_size amounts.now }
 {
     let mut size: usize = 0;
-    let mut i = 0;
-    while i < amounts.len() {
-        size += signed_length(amounts[i]);
-        i += 1;
+    for v in amounts {
+        size += signed_length(*v);
     }
     size
 }

@@ -1,4 +1,5 @@
 -- What writing a valid hour comes to: 14 where the buffer is too short, else the whole deck.
+use Rattle.std.specs.Prelude.{Ok, Err}
 use Rattle.std.specs.Prelude.{◌≡◌, true, false, List, [], ◌++◌, ℕ, ◌-◌, ◌≤◌, ◌<◌, ltb, length, take, drop}
 use Rattle.std.proofs.Common.{ap, ◌∙◌, append-nil, arith, le-ltb, lt-ltb}
 use Rattle.std.proofs.Math.Seq.{take-append_seam}
@@ -9,7 +10,6 @@ use Rattle.rules.specs.Calls as calls
 use Rattle.rules.specs.Calls.{writing, leaves}
 use Rattle.rules.specs.declared.Hour.{Hour}
 use Rattle.rules.specs.declared.Refusal.TheVariants.{Short, NoDeck}
-use Rattle.rules.specs.declared.Written.TheVariants.{Count, Refused}
 use Rattle.write_fields.specs.Inked.{Room, Inked, inked_first}
 
 module _ (h : Hour) (size : ℕ) where
@@ -35,11 +35,11 @@ first_bytes w rest deck n e d =
 
 -- what the answer and the lent buffer come to
 module _ (h : Hour) (out : List ℕ) (v : valid h ≡ true) (n : ℕ) (e : n ≡ length (deck_text h)) where
-  pub wrote_short : length out < n → (Refused Short ≡ written_of (writing h (length out))) × (out ≡ leaves (writing h (length out)) out)
+  pub wrote_short : length out < n → (Err Short ≡ written_of (writing h (length out))) × (out ≡ leaves (writing h (length out)) out)
   wrote_short lt = let f = writing_short h (length out) v (omega arith) in (rw f, rw f)
 
   pub wrote_fits : (w after : List ℕ) (next : ℕ) → n ≤ length out → w ≡ deck_text h → Inked out 0 after next (λ rest. w ++ rest)
-      → (Count n ≡ written_of (writing h (length out))) × (after ≡ leaves (writing h (length out)) out)
+      → (Ok n ≡ written_of (writing h (length out))) × (after ≡ leaves (writing h (length out)) out)
   wrote_fits w after next le d i =
       let f = writing_fits h (length out) v (omega arith) in
       let whole : w ++ [] ≡ deck_text h = append-nil w ∙ d in

@@ -12,7 +12,7 @@ ghost use Rattle.write_fields.specs.Inked.{Room, Inked, up_to};
 ghost use Rattle.write_deck.specs.Lines.{name_text, entry_text, head_line_of, unit_fields, direct_line_of};
 ghost use Rattle.write_deck.specs.Deck.{source_text, delivery_text, direct_text};
 
-use rules::{Basis, Delivery, Hour, Label, Plant, Refusal, Source, Unit, Written};
+use rules::{Basis, Delivery, Hour, Label, Plant, Refusal, Source, Unit};
 
 // A space and a label.
 fn put_name(buf: &mut [u8], at: usize, l: Label) -> usize
@@ -125,11 +125,9 @@ fn put_sources(buf: &mut [u8], at: usize, h: Hour) -> usize
 {
     let n = h.nsources;
     let mut p = at;
-    let mut i = 0;
-    while i < n {
+    for i in 0..n {
         let x = h.sources[i];
         p = put_source(buf, p, x);
-        i += 1;
     }
     p
 }
@@ -140,11 +138,9 @@ fn put_deliveries(buf: &mut [u8], at: usize, h: Hour) -> usize
 {
     let n = h.ndeliveries;
     let mut p = at;
-    let mut i = 0;
-    while i < n {
+    for i in 0..n {
         let x = h.deliveries[i];
         p = put_delivery(buf, p, x);
-        i += 1;
     }
     p
 }
@@ -155,8 +151,7 @@ fn put_directs(buf: &mut [u8], at: usize, h: Hour) -> usize
 {
     let n = h.ndirects;
     let mut p = at;
-    let mut i = 0;
-    while i < n {
+    for i in 0..n {
         let x = h.directs[i];
         let s = x.source;
         let d = x.delivery;
@@ -166,7 +161,6 @@ fn put_directs(buf: &mut [u8], at: usize, h: Hour) -> usize
         let unit = source.label;
         let name = delivery.label;
         p = put_direct(buf, p, basis, x.percent, unit, name);
-        i += 1;
     }
     p
 }
@@ -185,7 +179,7 @@ pub fn put_deck(buf: &mut [u8], h: Hour) -> usize
 }
 
 // The deck of a valid hour into a lent buffer: 14, and nothing changed, where that is too short.
-fn write_valid(h: Hour, out: &mut [u8]) -> Written
+fn write_valid(h: Hour, out: &mut [u8]) -> Result<usize, Refusal>
     requires { valid h ≡ true }
     ensures outcome { result ≡ written_of (writing h (length out.old)) }
     ensures bytes { out.new ≡ leaves (writing h (length out.old)) out.old }
@@ -193,19 +187,19 @@ fn write_valid(h: Hour, out: &mut [u8]) -> Written
     let mut deck = [0u8; 8192];
     let n = put_deck(&mut deck, h);
     if out.len() < n {
-        return Written::Refused(Refusal::Short);
+        return Err(Refusal::Short);
     }
     write_fields::put_bytes(out, 0, &deck[0..n]);
-    Written::Count(n)
+    Ok(n)
 }
 
 // How many bytes the deck has, or why it was not written.
-pub fn write(h: Hour, out: &mut [u8]) -> Written
+pub fn write(h: Hour, out: &mut [u8]) -> Result<usize, Refusal>
     ensures outcome { result ≡ written_of (writing h (length out.old)) }
     ensures bytes { out.new ≡ leaves (writing h (length out.old)) out.old }
 {
     if !record::valid(h) {
-        return Written::Refused(Refusal::NoDeck);
+        return Err(Refusal::NoDeck);
     }
     write_valid(h, out)
 }

@@ -116,6 +116,7 @@ pub fn count_digits(v: u64) -> usize
     let tenth = v / 10;
     let mut power: u64 = 1;
     let mut n: usize = 0;
+    // no `for`: how many turns there are is the answer
     while power <= tenth {
         power *= 10;
         n += 1;
@@ -183,7 +184,7 @@ pub fn put_spaced(buf: &mut [u8], at: usize, v: u32) -> usize
     ensures { Inked buf.old at buf.new result (spaced_text v) }
 {
     let p = put_byte(buf, at, b' ');
-    put_number(buf, p, v as u64)
+    put_number(buf, p, u64::from(v))
 }
 
 // Numbers, each after a space.
@@ -192,10 +193,8 @@ pub fn put_numbers(buf: &mut [u8], at: usize, vs: &[u32]) -> usize
     ensures { Inked buf.old at buf.new result (numbers_text vs.now) }
 {
     let mut p = at;
-    let mut i = 0;
-    while i < vs.len() {
-        p = put_spaced(buf, p, vs[i]);
-        i += 1;
+    for v in vs {
+        p = put_spaced(buf, p, *v);
     }
     p
 }
@@ -214,24 +213,21 @@ fn put_character(buf: &mut [u8], at: usize, c: u8) -> usize
     put_byte(buf, at, c)
 }
 
-// How many characters a label has.
-pub fn characters(l: Label) -> usize
-    ensures { (result ≡ length (chars l)) × (result ≤ 16) }
+// A label's characters.
+pub fn characters(l: &Label) -> &[u8]
+    ensures { (result.now ≡ chars l.now) × (length result.now ≤ 16) }
 {
-    let n = l.len as usize;
-    if n < 16 { n } else { 16 }
+    let n = usize::from(l.len);
+    &l.bytes[..n.min(16)]
 }
 
 fn put_escaped(buf: &mut [u8], at: usize, l: Label) -> usize
     requires { Room buf.old at (escape_text (chars l) []) }
     ensures { Inked buf.old at buf.new result (escape_text (chars l)) }
 {
-    let n = characters(l);
     let mut p = at;
-    let mut i = 0;
-    while i < n {
-        p = put_character(buf, p, l.bytes[i]);
-        i += 1;
+    for c in characters(&l) {
+        p = put_character(buf, p, *c);
     }
     p
 }
@@ -253,6 +249,6 @@ pub fn put_basis(buf: &mut [u8], at: usize, x: Basis) -> usize
     match x {
         Basis::Low => put_byte(buf, at, b'L'),
         Basis::Generation => put_byte(buf, at, b'G'),
-        Basis::Mwh(v) => put_number(buf, at, v as u64),
+        Basis::Mwh(v) => put_number(buf, at, u64::from(v)),
     }
 }

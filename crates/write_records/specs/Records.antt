@@ -70,12 +70,14 @@ front_doubled (c ∷ cs) = front_then (front_character c) (front_doubled cs)
 pub front_label : (cs : Chars) → Front (label_field cs)
 front_label cs = front_then (front_two 44 34) (front_then (front_doubled cs) (front_byte 34))
 
--- the first n bytes, each in its turn
-pub doubled_all : (n : ℕ) (bs : List ℕ) (rest : List ℕ) → up_to (doubled_at bs) (length (take n bs)) rest ≡ doubled (take n bs) rest
+doubled_each : (cs : Chars) (rest : List ℕ) → up_to (doubled_at cs) (length cs) rest ≡ doubled cs rest
 unfolding sheet.doubled inked.up_to
-doubled_all zero bs rest = refl
-doubled_all (suc n) [] rest = refl
-doubled_all (suc n) (b ∷ bs) rest = up_to_first (doubled_at (b ∷ bs)) (length (take n bs)) rest ∙ ap (doubled_text b) (doubled_all n bs rest)
+doubled_each [] rest = refl
+doubled_each (c ∷ cs) rest = up_to_first (doubled_at (c ∷ cs)) (length cs) rest ∙ ap (doubled_text c) (doubled_each cs rest)
+
+-- characters, each in its turn
+pub doubled_all : {bs cs : Chars} → bs ≡ cs → (rest : List ℕ) → up_to (doubled_at bs) (length bs) rest ≡ doubled cs rest
+doubled_all {bs} e rest = doubled_each bs rest ∙ ap (λ (w : Chars). doubled w rest) e
 
 -- before what comes after it
 doubled_then : (cs : Chars) (rest w : List ℕ) → doubled cs rest ++ w ≡ doubled cs (rest ++ w)

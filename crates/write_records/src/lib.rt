@@ -30,12 +30,9 @@ fn put_doubled(buf: &mut [u8], at: usize, label: Label) -> usize
     requires { Room buf.old at (doubled (chars label) []) }
     ensures { Inked buf.old at buf.new result (doubled (chars label)) }
 {
-    let n = write_fields::characters(label);
     let mut p = at;
-    let mut i: usize = 0;
-    while i < n {
-        p = put_character(buf, p, label.bytes[i]);
-        i += 1;
+    for c in write_fields::characters(&label) {
+        p = put_character(buf, p, *c);
     }
     p
 }
@@ -93,7 +90,7 @@ pub fn put_head(buf: &mut [u8], at: usize, delivery: Label, number: InternalSequ
     let p = write_fields::put_bytes(buf, at, b"delivery");
     let q = put_label(buf, p, delivery);
     let r = write_fields::put_byte(buf, q, b',');
-    write_fields::put_number(buf, r, number.0 as u64)
+    write_fields::put_number(buf, r, u64::from(number.0))
 }
 
 // A delivery with a source, after the head.
@@ -134,12 +131,9 @@ fn character_length(c: u8) -> usize
 pub fn label_length(l: Label) -> usize
     ensures { (result ≡ length (label_field (chars l) [])) × (result ≤ most_label) }
 {
-    let n = write_fields::characters(l);
     let mut size: usize = 3;
-    let mut i = 0;
-    while i < n {
-        size += character_length(l.bytes[i]);
-        i += 1;
+    for c in write_fields::characters(&l) {
+        size += character_length(*c);
     }
     size
 }

@@ -1,4 +1,5 @@
 -- What writing an hour's file comes to: of a valid hour by what its reconstruction came to, of a record and of a deck by that.
+use Rattle.std.specs.Prelude.{Result, Ok, Err}
 use Rattle.std.specs.Prelude.{◌≡◌, true, false, List, ℕ, ◌≤◌, ℤ, length}
 use Rattle.std.proofs.Math.Path.{ap}
 use Rattle.std.proofs.Common.{sym, ◌∙◌, arith}
@@ -12,8 +13,6 @@ use Rattle.rules.specs.declared.Hour.{Hour}
 use Rattle.rules.specs.declared.Key.{Key}
 use Rattle.rules.specs.declared.Refusal.{Refusal}
 use Rattle.rules.specs.declared.Refusal.TheVariants.{NoDeck}
-use Rattle.rules.specs.declared.Written.{Written}
-use Rattle.rules.specs.declared.Written.TheVariants.{Count, Refused as NotWritten}
 use Rattle.sequence.specs.Placings.{placings}
 use Rattle.hour_lines.specs.HourCells.{Answered}
 use Rattle.hour_lines.specs.HourRun.{Ended, run_refused, run_done, run_cells}
@@ -35,11 +34,11 @@ module _ (h : Hour) where
     hour_fits = omega (arith, ap length (file_run h a.progress a.run), file_fits h a.progress a.valid a.run)
 
   -- what the reconstruction answered
-  module _ {end : Written} {cells : List ℤ} (x : Ended h end cells) where
-    pub ended_refused : (r : Refusal) → end ≡ NotWritten r → reconstructed h ≡ refused r
+  module _ {end : (Result ℕ Refusal)} {cells : List ℤ} (x : Ended h end cells) where
+    pub ended_refused : (r : Refusal) → end ≡ Err r → reconstructed h ≡ refused r
     ended_refused r e = run_refused h r (sym e ∙ x.outcome)
 
-    pub ended_done : (ks : List Key) (n : ℕ) → valid h ≡ true → ks ≡ placings h.deliveries h.ndeliveries → end ≡ Count n → Answered h ks cells
+    pub ended_done : (ks : List Key) (n : ℕ) → valid h ≡ true → ks ≡ placings h.deliveries h.ndeliveries → end ≡ Ok n → Answered h ks cells
     ended_done ks n v k e = run_cells h ks cells v k (run_done h n x.before cells (sym e ∙ x.outcome) x.left)
 
   -- 15

@@ -21,7 +21,7 @@ ghost use Rattle.write_spreadsheet.specs.HourFile.{hour_file};
 use hour_lines::{FEW_CELLS, HOUR_AMOUNTS, MOST_CELLS};
 use moves::PAIR_CELLS;
 use reconstruct::OPEN_CELLS;
-use rules::{Hour, Key, Label, Refusal, Verdict, Written};
+use rules::{Hour, Key, Label, Refusal};
 
 // Room for what all records of a delivery begin with.
 const MOST_HEAD: usize = 64;
@@ -41,12 +41,10 @@ fn source_labels(h: Hour) -> [Label; 32]
         bytes: [0; 16],
     };
     let mut labels: [Label; 32] = [none; 32];
-    let mut i: usize = 0;
-    while i < n {
+    for i in 0..n {
         let x = h.sources[i];
         let l = x.label;
         labels[i] = l;
-        i += 1;
     }
     labels
 }
@@ -61,12 +59,10 @@ fn delivery_labels(h: Hour) -> [Label; 32]
         bytes: [0; 16],
     };
     let mut labels: [Label; 32] = [none; 32];
-    let mut j: usize = 0;
-    while j < m {
+    for j in 0..m {
         let x = h.deliveries[j];
         let l = x.label;
         labels[j] = l;
-        j += 1;
     }
     labels
 }
@@ -85,12 +81,10 @@ fn put_row(
     ensures { Inked buf.old at buf.new result (row_text sources n cells.now base head.now) }
 {
     let mut p = at;
-    let mut i: usize = 0;
-    while i < n {
+    for i in 0..n {
         let source = sources[i];
         let amounts = hour_lines::pair_amounts_at(cells, base + i * PAIR_CELLS);
         p = write_records::put_delivery(buf, p, head, source, &amounts);
-        i += 1;
     }
     p
 }
@@ -110,14 +104,12 @@ fn put_rows(
     ensures { Inked buf.old at buf.new result (up_to (row_at sources n deliveries keys cells.now) m) }
 {
     let mut p = at;
-    let mut j: usize = 0;
-    while j < m {
+    for j in 0..m {
         let delivery = deliveries[j];
         let x = keys[j];
         let mut head = [0u8; MOST_HEAD];
         let k = write_records::put_head(&mut head, 0, delivery, x.number);
         p = put_row(buf, p, sources, n, cells, j * (n * PAIR_CELLS), &head[0..k]);
-        j += 1;
     }
     p
 }
@@ -135,12 +127,10 @@ fn put_opens(
     ensures { Inked buf.old at buf.new result (up_to (open_at sources cells.now base) n) }
 {
     let mut p = at;
-    let mut i: usize = 0;
-    while i < n {
+    for i in 0..n {
         let source = sources[i];
         let amounts = hour_lines::open_amounts_at(cells, base + i * OPEN_CELLS);
         p = write_records::put_internal(buf, p, source, &amounts);
-        i += 1;
     }
     p
 }
@@ -180,12 +170,10 @@ fn row_length(sources: [Label; 32], n: usize, cells: &[i64], base: usize, head: 
     ensures { result ≡ length (row_text sources n cells.now base head.now []) }
 {
     let mut size: usize = 0;
-    let mut i: usize = 0;
-    while i < n {
+    for i in 0..n {
         let source = sources[i];
         let amounts = hour_lines::pair_amounts_at(cells, base + i * PAIR_CELLS);
         size += write_records::delivery_length(head, source, &amounts);
-        i += 1;
     }
     size
 }
@@ -202,14 +190,12 @@ fn rows_length(
     ensures { result ≡ length (up_to (row_at sources n deliveries keys cells.now) m []) }
 {
     let mut size: usize = 0;
-    let mut j: usize = 0;
-    while j < m {
+    for j in 0..m {
         let delivery = deliveries[j];
         let x = keys[j];
         let mut head = [0u8; MOST_HEAD];
         let k = write_records::put_head(&mut head, 0, delivery, x.number);
         size += row_length(sources, n, cells, j * (n * PAIR_CELLS), &head[0..k]);
-        j += 1;
     }
     size
 }
@@ -219,12 +205,10 @@ fn opens_length(sources: [Label; 32], n: usize, cells: &[i64], base: usize) -> u
     ensures { result ≡ length (up_to (open_at sources cells.now base) n []) }
 {
     let mut size: usize = 0;
-    let mut i: usize = 0;
-    while i < n {
+    for i in 0..n {
         let source = sources[i];
         let amounts = hour_lines::open_amounts_at(cells, base + i * OPEN_CELLS);
         size += write_records::internal_length(source, &amounts);
-        i += 1;
     }
     size
 }
@@ -245,40 +229,45 @@ fn file_length(h: Hour, keys: [Key; 32], cells: &[i64]) -> usize
 }
 
 // An hour's file into a lent buffer that may be too short for it.
-fn hand_file(out: &mut [u8], h: Hour, keys: [Key; 32], cells: &[i64]) -> Written
+fn hand_file(out: &mut [u8], h: Hour, keys: [Key; 32], cells: &[i64]) -> Result<usize, Refusal>
     requires { Answered h keys cells.now }
     ensures outcome { result ≡ written_of (into (length out.old) (hour_file h)) }
     ensures bytes { out.new ≡ leaves (into (length out.old) (hour_file h)) out.old }
 {
     if out.len() < file_length(h, keys, cells) {
-        return Written::Refused(Refusal::Short);
+        return Err(Refusal::Short);
     }
-    Written::Count(put_file(out, h, keys, cells))
+    Ok(put_file(out, h, keys, cells))
 }
 
 // The file of a valid hour, of what its reconstruction answered and left in the cells.
-fn write_answer(out: &mut [u8], h: Hour, keys: [Key; 32], end: Written, cells: &[i64]) -> Written
+fn write_answer(
+    out: &mut [u8],
+    h: Hour,
+    keys: [Key; 32],
+    end: Result<usize, Refusal>,
+    cells: &[i64],
+) -> Result<usize, Refusal>
     requires { (valid h ≡ true) × (keys ≡ placings h.deliveries h.ndeliveries) × Ended h end cells.now }
     ensures outcome { result ≡ written_of (file_for h (length out.old)) }
     ensures bytes { out.new ≡ leaves (file_for h (length out.old)) out.old }
 {
-    if let Written::Refused(r) = end {
-        return Written::Refused(r);
+    if let Err(r) = end {
+        return Err(r);
     }
     if out.len() < MOST_FILE {
         return hand_file(out, h, keys, cells);
     }
-    Written::Count(put_file(out, h, keys, cells))
+    Ok(put_file(out, h, keys, cells))
 }
 
 // The file of a valid hour: 12 or 13, then 14.
-fn write_valid(h: Hour, out: &mut [u8]) -> Written
+fn write_valid(h: Hour, out: &mut [u8]) -> Result<usize, Refusal>
     requires { valid h ≡ true }
     ensures outcome { result ≡ written_of (file_for h (length out.old)) }
     ensures bytes { out.new ≡ leaves (file_for h (length out.old)) out.old }
 {
-    let deliveries = h.deliveries;
-    let keys = sequence::keys(deliveries, h.ndeliveries);
+    let keys = sequence::keys(&h.deliveries, h.ndeliveries);
     let count = h.ndeliveries * (h.nsources * PAIR_CELLS) + h.nsources * OPEN_CELLS;
     if count <= FEW_CELLS {
         let mut cells = [0i64; FEW_CELLS];
@@ -291,26 +280,21 @@ fn write_valid(h: Hour, out: &mut [u8]) -> Written
 }
 
 // The file of an hour record: 15, then 12 or 13, then 14.
-pub fn spreadsheet(h: Hour, out: &mut [u8]) -> Written
+pub fn spreadsheet(h: Hour, out: &mut [u8]) -> Result<usize, Refusal>
     ensures outcome { result ≡ written_of (calls.spreadsheet h (length out.old)) }
     ensures bytes { out.new ≡ leaves (calls.spreadsheet h (length out.old)) out.old }
 {
     if !record::valid(h) {
-        return Written::Refused(Refusal::NoDeck);
+        return Err(Refusal::NoDeck);
     }
     write_valid(h, out)
 }
 
 // The file of a deck: 1 to 11, then 12 or 13, then 14.
-pub fn deck_spreadsheet(deck: &[u8], out: &mut [u8]) -> Written
+pub fn deck_spreadsheet(deck: &[u8], out: &mut [u8]) -> Result<usize, Refusal>
     ensures outcome { result ≡ written_of (deck_spreadsheet deck.now (length out.old)) }
     ensures bytes { out.new ≡ leaves (deck_spreadsheet deck.now (length out.old)) out.old }
 {
-    let x = deck::read(deck);
-    let verdict = x.verdict;
-    if let Verdict::Refused(r) = verdict {
-        return Written::Refused(r);
-    }
-    let h = x.hour;
+    let h = deck::read(deck)?;
     write_valid(h, out)
 }

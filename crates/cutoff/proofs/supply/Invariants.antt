@@ -5,6 +5,3 @@ use Rattle.cutoff.proofs.supply.Given as goal
 
 abbrev pub invariant-loop-i : goal.invariant-loop-i
 invariant-loop-i l = (l.i ≤ l.n) × (l.sum ≡ sum_to (stock_at l.one l.step l.span l.inv l.p) l.i)
-
-abbrev pub decreases-loop-i : goal.decreases-loop-i
-decreases-loop-i l = l.n - l.i

@@ -1,14 +1,16 @@
-use mathlib.Core.Path.{ap, sym, ◌∙◌}
+use Rattle.std.proofs.Common.{ap, ◌∙◌}
 use Rattle.rules.specs.Answers.{verdict_of}
-use Rattle.rules.specs.declared.Verdict.{Verdict}
-use Rattle.deck.specs.FirstLine.{rows_by}
-use Rattle.deck.specs.Head.{rows_after_told}
+use Rattle.deck.specs.Head.{reading_rows, reading_follows}
+use Rattle.deck.proofs.Asked.{was_passed}
 use Rattle.deck.proofs.check_deck.Goals as goal
 
-pub returns-in-Refused : goal.returns-in-Refused
-returns-in-Refused c =
-    sym (ap (λ (v : Verdict). verdict_of (rows_by c.args.s.now c.head_at-x.result.next c.head_at-x.result.losses v)) c.in-Refused.is) ∙ ap verdict_of (rows_after_told c.args.s.now _ c.head_at-x.ensures)
+pub returns-in_err-losses : goal.returns-in_err-losses
+returns-in_err-losses c = was_passed _ c.from_residual.ensures.1 ∙ ap verdict_of (reading_rows c.args.s.now _ c.in_err-losses.ensures.line)
 
-pub returns-in-Accepted : goal.returns-in-Accepted
-returns-in-Accepted c =
-    c.check_rows.ensures ∙ sym (ap (λ (v : Verdict). verdict_of (rows_by c.args.s.now c.head_at-x.result.next c.head_at-x.result.losses v)) c.in-Accepted.is) ∙ ap verdict_of (rows_after_told c.args.s.now _ c.head_at-x.ensures)
+pub rows-requires : goal.rows-requires
+rows-requires c = (rw c.head.ensures.deck (reading_follows c.args.s.now _ c.in_ok-losses.ensures.line), tt)
+
+pub returns : goal.returns
+returns c =
+    let told = rw c.head.ensures.deck at c.rows.ensures.verdict in
+    told ∙ ap verdict_of (reading_rows c.args.s.now _ c.in_ok-losses.ensures.line)

@@ -4,6 +4,3 @@ use Rattle.dispatch.proofs.choose.Given as goal
 
 abbrev pub invariant-loop-i : goal.invariant-loop-i
 invariant-loop-i l = (l.bar ≤ 2 ^ 48 + 2) × Lead l.up l.more l.left l.n l.best l.bar l.i
-
-abbrev pub decreases-loop-i : goal.decreases-loop-i
-decreases-loop-i l = l.n - l.i

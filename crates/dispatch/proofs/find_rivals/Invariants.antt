@@ -4,6 +4,3 @@ use Rattle.dispatch.proofs.find_rivals.Given as goal
 
 abbrev pub invariant-loop-i : goal.invariant-loop-i
 invariant-loop-i l = (l.i ≤ l.n) × Rivals l.bar l.one l.i l.places l.m
-
-abbrev pub decreases-loop-i : goal.decreases-loop-i
-decreases-loop-i l = l.n - l.i

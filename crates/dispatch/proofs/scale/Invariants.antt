@@ -6,6 +6,3 @@ use Rattle.dispatch.proofs.scale.Given as goal
 
 abbrev pub invariant-loop-i : goal.invariant-loop-i
 invariant-loop-i l = (l.i ≤ l.n) × (length l.span ≡ lanes) × (length l.inv ≡ lanes) × Table l.one l.step l.span l.inv l.cap l.i
-
-abbrev pub decreases-loop-i : goal.decreases-loop-i
-decreases-loop-i l = l.n - l.i

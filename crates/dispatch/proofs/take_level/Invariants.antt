@@ -4,6 +4,3 @@ use Rattle.dispatch.proofs.take_level.Given as goal
 
 abbrev pub invariant-loop-i : goal.invariant-loop-i
 invariant-loop-i l = (l.i ≤ l.n) × (l.sum ≤ l.s) × Turns l.up l.one l.step l.cap l.n l.m l.total l.s l.i l.taken l.left
-
-abbrev pub decreases-loop-i : goal.decreases-loop-i
-decreases-loop-i l = l.n - l.i

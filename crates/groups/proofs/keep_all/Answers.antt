@@ -1,4 +1,3 @@
-use native.Mathlib.Omega.{arith}
 use Rattle.groups.specs.RowKept.{carrying_more, carried_all}
 use Rattle.groups.proofs.keep_all.Goals as goal
 
@@ -6,8 +5,7 @@ pub loop-i-preserved : goal.loop-i-preserved
 loop-i-preserved c =
     let p = c.requires in
     let l = c.loop-i.invariant in
-    let t = c.loop-i-test.true in
-    (omega (arith, t), l.1, carrying_more _ _ _ _ _ _ _ _ p.0 t p.1.n_small l.1 (p.1.ready _) (p.2.ready _) c.keep.ensures l.2)
+    (l.0, carrying_more _ _ _ _ _ _ _ _ p.0 c.loop-i-test.true p.1.n_small l.0 (p.1.ready _) (p.2.ready _) c.keep.ensures l.1)
 
 pub returns : goal.returns
-returns c = carried_all _ _ _ _ _ _ _ c.loop-i.invariant.0 c.loop-i-test.false c.loop-i.invariant.2
+returns c = carried_all _ _ _ _ _ _ _ c.loop-i.auto.i-end c.loop-i-test.false c.loop-i.invariant.1

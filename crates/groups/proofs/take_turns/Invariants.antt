@@ -1,5 +1,4 @@
 use mathlib.Core.Path.{◌≡◌}
-use Prim.Native.Nat.{◌-◌, ◌≤◌}
 use lib.ListN.{length}
 use Rattle.cutoff.specs.Lines.{at}
 use Rattle.group.specs.FirstWay.{FirstLines}
@@ -13,24 +12,15 @@ use Rattle.groups.proofs.take_turns.Given as goal
 
 abbrev pub invariant-loop-a : goal.invariant-loop-a
 invariant-loop-a l =
-    (l.a ≤ l.n) × Opened l.h.sources l.a l.states × FirstLines l.states l.step l.down l.room l.above l.head l.a
-
-abbrev pub decreases-loop-a : goal.decreases-loop-a
-decreases-loop-a l = l.n - l.a
+    Opened l.h.sources l.a l.states × FirstLines l.states l.step l.down l.room l.above l.head l.a
 
 abbrev pub invariant-loop-q : goal.invariant-loop-q
 invariant-loop-q l =
-    (l.q ≤ l.k) × LinesTaken (member l.keys l.key) l.h.directs l.initial.states l.n l.q l.states l.took × RowKept l.lead l.n l.initial.states l.initial.kept l.states l.kept × FirstLines l.states l.step l.down l.room l.above l.head l.n × (length l.states ≡ 32)
-
-abbrev pub decreases-loop-q : goal.decreases-loop-q
-decreases-loop-q l = l.k - l.q
+    LinesTaken (member l.keys l.key) l.h.directs l.initial.states l.n l.q l.states l.took × RowKept l.lead l.n l.initial.states l.initial.kept l.states l.kept × FirstLines l.states l.step l.down l.room l.above l.head l.n × (length l.states ≡ 32)
 
 abbrev pub invariant-loop-i : goal.invariant-loop-i
 invariant-loop-i l =
-    (l.i ≤ l.n) × Shifted l.up l.initial.states l.i (at l.taken) l.states × Carried l.lead l.n l.initial.states l.initial.kept l.states l.kept × FirstLines l.states l.step l.down l.room l.above l.head l.n × (length l.states ≡ 32)
-
-abbrev pub decreases-loop-i : goal.decreases-loop-i
-decreases-loop-i l = l.n - l.i
+    Shifted l.up l.initial.states l.i (at l.taken) l.states × Carried l.lead l.n l.initial.states l.initial.kept l.states l.kept × FirstLines l.states l.step l.down l.room l.above l.head l.n × (length l.states ≡ 32)
 
 abbrev pub invariant-loop-next : goal.invariant-loop-next
 invariant-loop-next l =

@@ -5,6 +5,3 @@ use Rattle.ladder.proofs.dearest.Given as goal
 
 abbrev pub invariant-loop-i : goal.invariant-loop-i
 invariant-loop-i l = (l.i ≤ l.n) × Lead l.states l.n l.i l.best l.other × Ready l.other
-
-abbrev pub decreases-loop-i : goal.decreases-loop-i
-decreases-loop-i l = l.n - l.i

@@ -6,6 +6,3 @@ use Rattle.ladder.proofs.rooms.Given as goal
 
 abbrev pub invariant-loop-i : goal.invariant-loop-i
 invariant-loop-i l = (l.i ≤ l.n) × (l.sum ≤ l.i * 2000) × (l.sum ≡ all (way_of l.way).room l.states l.i)
-
-abbrev pub decreases-loop-i : goal.decreases-loop-i
-decreases-loop-i l = l.n - l.i

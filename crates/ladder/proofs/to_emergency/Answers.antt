@@ -11,7 +11,7 @@ use Rattle.ladder.proofs.to_emergency.Goals as goal
 pub shift_one-requires-clause-room : goal.shift_one-requires-clause-room
 shift_one-requires-clause-room c =
     let a = c.loop-i in
-    let r : Ready (state_at a.after a.i) = rw (a.invariant.1.beyond a.i (omega arith)) (c.requires.ready a.i) in way_within (Down Emergency) (state_at a.after a.i) _ r (omega (arith, c.room_by-room.ensures.0))
+    let r : Ready (state_at a.states a.i) = rw (a.invariant.1.beyond a.i (omega arith)) (c.requires.ready a.i) in way_within (Down Emergency) (state_at a.states a.i) _ r (omega (arith, c.room_by-room.ensures.0))
 
 pub returns : goal.returns
 returns c =

@@ -5,7 +5,4 @@ use Rattle.ladder.specs.Ready.{Shifted}
 use Rattle.ladder.proofs.to_emergency.Given as goal
 
 abbrev pub invariant-loop-i : goal.invariant-loop-i
-invariant-loop-i l = (l.i ≤ 32) × Shifted false l.initial.after l.i (emergency_room l.initial.after) l.after
-
-abbrev pub decreases-loop-i : goal.decreases-loop-i
-decreases-loop-i l = 32 - l.i
+invariant-loop-i l = (l.i ≤ 32) × Shifted false l.initial.states l.i (emergency_room l.initial.states) l.states

@@ -8,8 +8,8 @@ use Rattle.line_rules.proofs.find_spelling.Goals as goal
 pub loop-i-init : goal.loop-i-init
 loop-i-init c = (search rules, find_to_zero _)
 
-pub returns-then-same_spelling : goal.returns-then-same_spelling
-returns-then-same_spelling c =
+pub returns-then-same_spelling-clause-found : goal.returns-then-same_spelling-clause-found
+returns-then-same_spelling-clause-found c =
     ap spot_of (sym (find_to_here _ _ c.loop-i.i (omega arith) c.loop-i.invariant.1 (sym c.same_spelling.ensures ∙ c.if-same_spelling.true)))
 
 pub loop-i-preserved : goal.loop-i-preserved

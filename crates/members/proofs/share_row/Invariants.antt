@@ -1,14 +1,10 @@
-use Prim.Native.Nat.{ℕ, ◌-◌, ◌≤◌}
+use Rattle.std.proofs.Common.{ℕ}
 use Rattle.members.specs.Live.{reached, Listed}
 use Rattle.members.specs.Rows.{RowFits, Row}
 use Rattle.rules.specs.Group.{Amount}
 use Rattle.members.proofs.share_row.Given as goal
 
-abbrev pub invariant-loop-k : goal.invariant-loop-k
-invariant-loop-k l =
-    (l.k ≤ l.places) ×
-    ((a : ℕ → Amount) → RowFits l.at l.width l.total l.count l.mwh a l.initial.had l.initial.cells → Listed a l.width l.live l.sizes l.minus l.places
-    → Row l.at l.total l.count l.mwh a l.initial.had l.initial.cells (reached l.live l.k) l.had l.cells)
-
-abbrev pub decreases-loop-k : goal.decreases-loop-k
-decreases-loop-k l = l.places - l.k
+abbrev pub invariant-loop-p : goal.invariant-loop-p
+invariant-loop-p l =
+    (width : ℕ) → (a : ℕ → Amount) → RowFits l.at width l.total l.count l.mwh a l.initial.had l.initial.cells → Listed a width l.live
+    → Row l.at l.total l.count l.mwh a l.initial.had l.initial.cells (reached l.live l.p-index) l.had l.cells

@@ -1,32 +1,19 @@
 use native.Mathlib.Omega.{arith}
-use lib.ListN.{length}
-use Rattle.print_file.specs.Lines.{accepted_fits, begin, Next, next_line_lem, all_lines}
+use Rattle.print_file.specs.Lines.{starts_later, stays_within, line_room, begun_further, all_told, all_written}
 use Rattle.print_file.proofs.put_lines.Goals as goal
 
-pub loop-p-init : goal.loop-p-init
-loop-p-init c =
-    begin c.args.file.now c.args.out.now (accepted_fits c.args.file.now (length c.args.out.now) c.requires)
-
 pub put_line-q-requires : goal.put_line-q-requires
-put_line-q-requires c =
-    let l = c.loop-p in
-    let next : Next c.args.file.now c.args.out.now l.p l.out l.q l.invariant c.record_at-x.result = next_line_lem _ _ _ _ _ c.loop-p.invariant c.record_at-x.result c.loop-p-test.true c.record_at-x.ensures in
-    (next).room
+put_line-q-requires c = line_room _ _ _ _ _ c.loop-x.invariant _ c.record_at.ensures _ _ c.in-Some.is
 
-pub loop-p-smaller : goal.loop-p-smaller
-loop-p-smaller c =
-    let l = c.loop-p in
-    let next : Next c.args.file.now c.args.out.now l.p l.out l.q l.invariant c.record_at-x.result = next_line_lem _ _ _ _ _ c.loop-p.invariant c.record_at-x.result c.loop-p-test.true c.record_at-x.ensures in
-    omega (arith, (next).later, c.loop-p-test.true)
+pub loop-x-smaller : goal.loop-x-smaller
+loop-x-smaller c =
+    omega (arith, starts_later _ _ _ _ _ c.loop-x.invariant _ c.record_at.ensures _ _ c.in-Some.is, stays_within _ _ _ _ _ c.loop-x.invariant _ c.record_at.ensures _ _ c.in-Some.is)
 
-pub loop-p-preserved : goal.loop-p-preserved
-loop-p-preserved c =
-    let l = c.loop-p in
-    let next : Next c.args.file.now c.args.out.now l.p l.out l.q l.invariant c.record_at-x.result = next_line_lem _ _ _ _ _ c.loop-p.invariant c.record_at-x.result c.loop-p-test.true c.record_at-x.ensures in
-    (next).further _ _ c.put_line-q.ensures
+pub loop-x-preserved : goal.loop-x-preserved
+loop-x-preserved c = begun_further _ _ _ _ _ c.loop-x.invariant _ c.record_at.ensures _ _ c.in-Some.is _ _ c.put_line-q.ensures
 
 pub returns-clause-outcome : goal.returns-clause-outcome
-returns-clause-outcome c = let l = c.loop-p in (all_lines c.args.file.now c.args.out.now l.p l.out l.q l.invariant c.loop-p-test.false).0
+returns-clause-outcome c = all_told _ _ _ _ _ c.loop-x.invariant _ c.record_at.ensures c.in_default.is
 
 pub returns-clause-bytes : goal.returns-clause-bytes
-returns-clause-bytes c = let l = c.loop-p in (all_lines c.args.file.now c.args.out.now l.p l.out l.q l.invariant c.loop-p-test.false).1
+returns-clause-bytes c = all_written _ _ _ _ _ c.loop-x.invariant _ c.record_at.ensures c.in_default.is

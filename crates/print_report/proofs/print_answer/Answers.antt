@@ -6,15 +6,15 @@ use Rattle.hour_lines.specs.HandedOver.{told_as}
 use Rattle.print_report.specs.Printing.{run_answered, unmet_report, reported, report_whole}
 use Rattle.print_report.proofs.print_answer.Goals as goal
 
-pub returns-in-Refused-clause-outcome : goal.returns-in-Refused-clause-outcome
-returns-in-Refused-clause-outcome c =
-    let r = c.in-Refused.r in
-    let unmet = run_refused c.args.x.hour r (sym c.in-Refused.is ∙ c.requires.1.outcome) in (told_as c.args.out.now (reported c.args.deck.now _ _ (unmet_report c.args.deck.now r c.args.x.hour c.requires.0.read unmet)) (c.hand_refusal.ensures.outcome, c.hand_refusal.ensures.bytes)).0
+pub returns-in-Err-clause-outcome : goal.returns-in-Err-clause-outcome
+returns-in-Err-clause-outcome c =
+    let r = c.in-Err.r in
+    let unmet = run_refused c.args.x.hour r (sym c.in-Err.is ∙ c.requires.1.outcome) in (told_as c.args.out.now (reported c.args.deck.now _ _ (unmet_report c.args.deck.now r c.args.x.hour c.requires.0.read unmet)) (c.hand_refusal.ensures.outcome, c.hand_refusal.ensures.bytes)).0
 
-pub returns-in-Refused-clause-bytes : goal.returns-in-Refused-clause-bytes
-returns-in-Refused-clause-bytes c =
-    let r = c.in-Refused.r in
-    let unmet = run_refused c.args.x.hour r (sym c.in-Refused.is ∙ c.requires.1.outcome) in (told_as c.args.out.now (reported c.args.deck.now _ _ (unmet_report c.args.deck.now r c.args.x.hour c.requires.0.read unmet)) (c.hand_refusal.ensures.outcome, c.hand_refusal.ensures.bytes)).1
+pub returns-in-Err-clause-bytes : goal.returns-in-Err-clause-bytes
+returns-in-Err-clause-bytes c =
+    let r = c.in-Err.r in
+    let unmet = run_refused c.args.x.hour r (sym c.in-Err.is ∙ c.requires.1.outcome) in (told_as c.args.out.now (reported c.args.deck.now _ _ (unmet_report c.args.deck.now r c.args.x.hour c.requires.0.read unmet)) (c.hand_refusal.ensures.outcome, c.hand_refusal.ensures.bytes)).1
 
 pub hand_hour-requires : goal.hand_hour-requires
 hand_hour-requires c =

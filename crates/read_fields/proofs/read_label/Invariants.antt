@@ -1,12 +1,12 @@
-use Prim.Native.Nat.{◌-◌, ◌≤◌}
-use mathlib.Core.Path.{◌≡◌}
-use mathlib.Core.Bool.{false}
-use lib.ListN.{length, drop}
+use Rattle.std.proofs.Common.{◌≡◌, ◌≤◌, ◌+◌, ◌-◌, false, length}
+use Rattle.std.specs.Slice.Iter.{iter_rest}
 use Rattle.rules.specs.Fields.{closing, label_end}
 use Rattle.read_fields.proofs.read_label.Given as goal
 
-abbrev pub invariant-loop-i : goal.invariant-loop-i
-invariant-loop-i l = (l.n ≤ l.i) × (closing false l.n l.i (drop l.i l.part) ≡ label_end l.part)
+abbrev pub invariant-loop-b : goal.invariant-loop-b
+invariant-loop-b l =
+    (l.n + length (iter_rest l.bytes) + 1 ≤ length l.part)
+    × (closing false l.n (length l.part - length (iter_rest l.bytes)) (iter_rest l.bytes) ≡ label_end l.part)
 
-abbrev pub decreases-loop-i : goal.decreases-loop-i
-decreases-loop-i l = length l.part - l.i
+abbrev pub decreases-loop-b : goal.decreases-loop-b
+decreases-loop-b l = length (iter_rest l.bytes)

@@ -6,7 +6,4 @@ use Rattle.read_records.proofs.Lists.{prefixed}
 use Rattle.read_records.proofs.numbers_at.Given as goal
 
 abbrev pub invariant-loop-i : goal.invariant-loop-i
-invariant-loop-i l = (length l.amounts ≡ 4) × (l.i ≤ l.n) × (prefixed (take l.i l.amounts) (numbers_at (l.n - l.i) l.s l.p) ≡ numbers_at l.n l.s l.at)
-
-abbrev pub decreases-loop-i : goal.decreases-loop-i
-decreases-loop-i l = l.n - l.i
+invariant-loop-i g l = (length l.amounts ≡ g.row.N) × (l.i ≤ g.row.N) × (prefixed (take l.i l.amounts) (numbers_at (g.row.N - l.i) l.s l.p) ≡ numbers_at g.row.N l.s l.at)

@@ -6,11 +6,10 @@ pub put_amounts-requires : goal.put_amounts-requires
 put_amounts-requires c =
     let f = c.requires in
     record {
-      low = omega (arith, f.low, f.ready.n_small, c.loop-i-test.true);
-      room = omega (arith, f.room, c.loop-i.invariant.1.long, c.loop-i-test.true);
-      small = amounts_small _ _ (f.ready.ready _) c.open_amounts-amounts.ensures;
+      low = omega (arith, f.low, f.few, c.loop-i-test.true);
+      room = omega (arith, f.room, c.loop-i.invariant.long, c.loop-i-test.true);
+      small = amounts_small _ _ (f.ready _ c.loop-i-test.true) c.open_amounts.ensures;
     }
 
 pub loop-i-preserved : goal.loop-i-preserved
-loop-i-preserved c =
-    (omega (arith, c.loop-i-test.true), open_more _ _ _ _ _ _ _ c.loop-i.invariant.1 c.open_amounts-amounts.ensures c.put_amounts.ensures)
+loop-i-preserved c = open_more _ _ _ _ _ _ _ c.loop-i.invariant c.open_amounts.ensures c.put_amounts.ensures

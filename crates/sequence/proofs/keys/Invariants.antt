@@ -1,9 +1,6 @@
-use Prim.Native.Nat.{◌-◌, ◌≤◌}
-use Rattle.sequence.specs.Columns.{Columns}
+use Rattle.std.proofs.Common.{◌≡◌}
+use Rattle.sequence.specs.Placings.{placings_to}
 use Rattle.sequence.proofs.keys.Given as goal
 
-abbrev pub invariant-loop-i : goal.invariant-loop-i
-invariant-loop-i l = (l.i ≤ l.n) × Columns l.ts l.i l.kinds l.blocks l.own
-
-abbrev pub decreases-loop-i : goal.decreases-loop-i
-decreases-loop-i l = l.n - l.i
+abbrev pub invariant-loop-j : goal.invariant-loop-j
+invariant-loop-j l = l.placed ≡ placings_to l.ts l.fn.n l.j

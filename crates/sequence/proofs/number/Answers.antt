@@ -1,11 +1,12 @@
-use mathlib.Core.Path.{sym, ◌∙◌}
-use Rattle.sequence.specs.RuleByRule.{number_placed, number_given}
+use Rattle.std.proofs.Common.{arith}
+use Rattle.std.proofs.lemmas.Bool.Decides.{nat_tests}
+use Rattle.rules.specs.Sequences.{numbered}
 use Rattle.sequence.proofs.number.Goals as goal
 
-pub returns-then-is_unplaced : goal.returns-then-is_unplaced
-returns-then-is_unplaced c =
-    number_placed _ _ _ _ c.args.j c.requires.1 (sym c.is_unplaced.ensures ∙ c.if-is_unplaced.true) c.place.ensures
+pub returns-then-t-eq0 : goal.returns-then-t-eq0
+unfolding numbered
+returns-then-t-eq0 c = grind (arith, nat_tests)
 
 pub returns : goal.returns
-returns c =
-    number_given _ _ _ _ c.args.j c.requires.1 (sym c.is_unplaced.ensures ∙ c.if-is_unplaced.false)
+unfolding numbered
+returns c = grind (arith, nat_tests)

@@ -5,6 +5,3 @@ use Rattle.write_deck.proofs.put_deliveries.Given as goal
 
 abbrev pub invariant-loop-i : goal.invariant-loop-i
 invariant-loop-i l = (l.n ≤ 32) × (l.i ≤ l.n) × Inked l.initial.buf l.at l.buf l.p (up_to (delivery_text l.h) l.i)
-
-abbrev pub decreases-loop-i : goal.decreases-loop-i
-decreases-loop-i l = l.n - l.i

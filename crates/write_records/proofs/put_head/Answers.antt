@@ -9,4 +9,4 @@ put_label-q-requires c =
 
 pub returns : goal.returns
 returns c =
-    inked_then c.put_bytes-p.ensures (inked_then c.put_label-q.ensures (inked_then c.put_byte-r.ensures c.put_number.ensures))
+    rw (← c.from.ensures) (inked_then c.put_bytes-p.ensures (inked_then c.put_label-q.ensures (inked_then c.put_byte-r.ensures c.put_number.ensures)))

@@ -6,15 +6,15 @@ use Rattle.write_spreadsheet.specs.HourFile.{hour_file}
 use Rattle.write_spreadsheet.specs.Sheets.{unmet, met, hour_fits, ended_refused, ended_done}
 use Rattle.write_spreadsheet.proofs.write_answer.Goals as goal
 
-pub returns-in-Refused-clause-outcome : goal.returns-in-Refused-clause-outcome
-returns-in-Refused-clause-outcome c =
-    let r = c.in-Refused.r in
-    let e = unmet c.args.h (length c.args.out.now) r (ended_refused c.args.h c.requires.2 r c.in-Refused.is) in rw e
+pub returns-in-Err-clause-outcome : goal.returns-in-Err-clause-outcome
+returns-in-Err-clause-outcome c =
+    let r = c.in-Err.r in
+    let e = unmet c.args.h (length c.args.out.now) r (ended_refused c.args.h c.requires.2 r c.in-Err.is) in rw e
 
-pub returns-in-Refused-clause-bytes : goal.returns-in-Refused-clause-bytes
-returns-in-Refused-clause-bytes c =
-    let r = c.in-Refused.r in
-    let e = unmet c.args.h (length c.args.out.now) r (ended_refused c.args.h c.requires.2 r c.in-Refused.is) in rw e
+pub returns-in-Err-clause-bytes : goal.returns-in-Err-clause-bytes
+returns-in-Err-clause-bytes c =
+    let r = c.in-Err.r in
+    let e = unmet c.args.h (length c.args.out.now) r (ended_refused c.args.h c.requires.2 r c.in-Err.is) in rw e
 
 pub hand_file-requires : goal.hand_file-requires
 hand_file-requires c =

@@ -5,7 +5,4 @@ use Rattle.rules.specs.Words.{sum_to}
 use Rattle.group.proofs.first.sum_of.Given as goal
 
 abbrev pub invariant-loop-i : goal.invariant-loop-i
-invariant-loop-i l = (l.i ≤ l.n) × (l.sum ≤ l.i * 2000) × (l.sum ≡ sum_to (at l.cap) l.i)
-
-abbrev pub decreases-loop-i : goal.decreases-loop-i
-decreases-loop-i l = l.n - l.i
+invariant-loop-i l = (l.sum ≤ l.i * 2000) × (l.sum ≡ sum_to (at l.cap) l.i)

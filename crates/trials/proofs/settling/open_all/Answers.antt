@@ -13,7 +13,7 @@ all-opened xs ss n k l o =
     (λ i m. o.at i (omega (arith, o.long)) ∙ sym (get_or-map (λ (s : Source). opened s.plant) xs i no_source))
 
 pub loop-i-init : goal.loop-i-init
-loop-i-init c = (omega arith, opened_none _ _ c.open-blank.ensures)
+loop-i-init c = rw c.blank_states-states.ensures (opened_none _)
 
 pub returns : goal.returns
-returns c = all-opened _ _ _ (search rules) c.loop-i-test.false c.loop-i.invariant.1
+returns c = all-opened _ _ _ (search rules) c.loop-i-test.false c.loop-i.invariant

@@ -3,8 +3,8 @@ use Rattle.groups.specs.StatesStayReady.{start_ready}
 use Rattle.ladder.specs.Ready.{AllReady}
 use Rattle.trials.proofs.settling.settle_often.Goals as goal
 
-pub settle-end-requires : goal.settle-end-requires
-settle-end-requires c =
+pub settle-requires : goal.settle-requires
+settle-requires c =
     let ready : AllReady c.open_all-states.result c.args.h.nsources = start_ready _ (sym c.valid.ensures ∙ c.if-not-valid.false) _ c.open_all-states.ensures in
     ready
 

@@ -1,8 +1,0 @@
-use Prim.Native.Nat.{◌≤◌, ◌-◌}
-use Rattle.findings.proofs.entries.percents.Given as goal
-
-abbrev pub invariant-loop-line : goal.invariant-loop-line
-invariant-loop-line l = 1 ≤ l.line
-
-abbrev pub decreases-loop-line : goal.decreases-loop-line
-decreases-loop-line l = l.k - l.line

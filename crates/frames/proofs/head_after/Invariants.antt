@@ -1,9 +1,0 @@
--- The word's bytes in turn.
-use Rattle.std.proofs.Common.{◌≤◌, ◌-◌, length}
-use Rattle.frames.proofs.head_after.Given as goal
-
-abbrev pub invariant-loop-i : goal.invariant-loop-i
-invariant-loop-i l = l.i ≤ length l.word
-
-abbrev pub decreases-loop-i : goal.decreases-loop-i
-decreases-loop-i l = length l.word - l.i
