@@ -13,7 +13,7 @@ use borrow.Author.Tests.{eq-eqb, ne_eqb, leb-true, leb-false, le-leb, lt-leb, le
 use Rattle.rules.specs.Words.{when◌then◌else◌}
 use Rattle.rules.specs.Answers.{verdict_of}
 use Rattle.rules.specs.Refusals.{Outcome, accepted, refused, and_then}
-use Rattle.rules.specs.Fields.{got, malformed}
+use Rattle.rules.specs.Fields.{Field, got, malformed}
 use Rattle.rules.specs.Report as report
 use Rattle.rules.specs.Report.{ReportLine, hour, pair, internal, end, refusal, report_texts}
 use Rattle.rules.specs.Spreadsheet as spreadsheet
@@ -44,6 +44,11 @@ abbrev pub due : std.Option Stage → Option ℕ
 due (Some stage) = some (stage_of stage)
 due None = none
 
+-- how far it is after what was found at a place, where a record that may come was
+abbrev pub stage_after : ℕ → Field ReportLine → Option ℕ
+stage_after stage (got l p) = after stage l
+stage_after stage malformed = none
+
 -- the lines from a place on, whose record is the k-th; "and one `end`", after which nothing stands
 unfoldable pub lines_from : List ℕ → ℕ → ℕ → ℕ → Outcome (List ReportLine)
 lines_from s stage k at =
@@ -63,6 +68,19 @@ going_on Houred n = refl
 going_on Opened n = refl
 going_on Ended n = absurd (n refl)
 
+pub stage_due : (b : Bool) (x : Stage) → due (when b then Some x else None) ≡ (when b then some (stage_of x) else none)
+stage_due true x = refl
+stage_due false x = refl
+
+-- of a record that is read
+pub kind_after : (stage : ℕ) (r : std.Option (Record × ℕ)) (x : Record) (next : ℕ) → r ≡ Some (x, next)
+    → stage_after stage (got (line_of x) next) ≡ stage_after stage (field_of r)
+kind_after stage r x next e = ap (λ (y : std.Option (Record × ℕ)). stage_after stage (field_of y)) (sym e)
+
+-- the place after a record
+pub got_next : (x : Record) (next : ℕ) (l : ReportLine) (p : ℕ) → field_of (Some (x, next)) ≡ got l p → next ≡ p
+got_next x next l p e = let there : ◌≡◌ {A = Field ReportLine} (got (line_of x) next) (got l p) = e in cc
+
 -- what is left of a room, and whether more fits
 room_less : (room a n : ℕ) → leb room (a + n) ≡ leb (room - a) n
 room_less room a n = go (leb room (a + n)) refl
@@ -78,52 +96,84 @@ line_judged l (accepted ls) room =
     rw (longer, room_less room (length (printed l [])) (length (report_texts ls)))
 line_judged l (refused r) room = refl
 
-module _ (s : List ℕ) (stage : Stage) (k at room : ℕ) (going : stage ≡ Ended → ⊥) where
-  turn : lines_from s (stage_of stage) k at
-      ≡ on_record (record_at s at) k λ l p. on_stage s k l p (λ further. records_from (length s) s further (k + 1) p) (after (stage_of stage) l)
+module _ (s : List ℕ) (stage k at : ℕ) (going : eqb stage ended ≡ false) where
+  turn : lines_from s stage k at ≡ on_record (record_at s at) k λ l p. on_stage s k l p (λ further. records_from (length s) s further (k + 1) p) (after stage l)
   unfolding lines_from spreadsheet.records_from
-  turn = rw (going_on stage going) (records_enough s (length s) (suc (length s)) (stage_of stage) k at (omega arith) (omega arith))
+  turn = rw going (records_enough s (length s) (suc (length s)) stage k at (omega arith) (omega arith))
 
-  -- by what the reader answers there
-  module _ (r : std.Option (Record × ℕ)) (e : field_of r ≡ record_at s at) where
-    -- no record
-    pub judged_none : r ≡ None → judged (lines_from s (stage_of stage) k at) room ≡ Err (FileRecord k)
-    judged_none is = rw (turn, ← e, is)
+  -- a record that is not of its form or may not come
+  pub not_due_lem : stage_after stage (record_at s at) ≡ none → lines_from s stage k at ≡ refused (FileRecord k)
+  not_due_lem e = turn ∙ go (record_at s at) e
+    where
+      go : (x : Field ReportLine) → stage_after stage x ≡ none
+          → on_record x k (λ l p. on_stage s k l p (λ further. records_from (length s) s further (k + 1) p) (after stage l)) ≡ refused (FileRecord k)
+      go (got l p) e = rw e
+      go malformed e = refl
 
-    module _ (x : Record) (p : ℕ) (is : r ≡ Some (x, p)) where
-      there : record_at s at ≡ got (line_of x) p
-      there = sym e ∙ ap field_of is
+  -- the lines after a line that comes
+  lines_further : (l : ReportLine) (p further : ℕ) → record_at s at ≡ got l p → after stage l ≡ some further
+      → lines_from s stage k at ≡ and_then (lines_from s further (k + 1) p) λ ls. accepted (l ∷ ls)
+  unfolding lines_from
+  lines_further l p further e f = turn ∙ rw (e, f) (go (eqb further ended) (eqb p (length s)))
+    where
+      go : (b c : Bool)
+          → (when b then (when c then accepted (l ∷ []) else refused (FileRecord (k + 1))) else and_then (records_from (length s) s further (k + 1) p) λ ls. accepted (l ∷ ls))
+          ≡ and_then (when b then (when c then accepted [] else refused (FileRecord (k + 1))) else records_from (length s) s further (k + 1) p) (λ ls. accepted (l ∷ ls))
+      go true true = refl
+      go true false = refl
+      go false c = refl
 
-      -- one that may not come
-      pub judged_not_due : due None ≡ after (stage_of stage) (line_of x) → judged (lines_from s (stage_of stage) k at) room ≡ Err (FileRecord k)
-      judged_not_due f = rw (turn, there, ← f)
+  -- a record that is due, the lines after it, and what is left of the room
+  pub record Turn (x : Record) (next further : ℕ) : Type 0 where
+    pub later : at < next
+    pub within : next ≤ length s
+    pub most : length (printed (line_of x) []) ≤ most_line
+    pub rest : (room : ℕ) → judged (lines_from s stage k at) room ≡ judged (lines_from s further (k + 1) next) (room - length (printed (line_of x) []))
 
-      -- where the next one starts, how long its line is, and the lines after it
-      pub starts_later : at < p
-      starts_later = (record_stood s at (line_of x) p there).later
+  pub due_turn : (x : Record) (next further : ℕ) → field_of (Some (x, next)) ≡ record_at s at → some further ≡ stage_after stage (field_of (Some (x, next))) → Turn x next further
+  due_turn x next further e f =
+      let t = record_stood s at (line_of x) next (sym e) in
+      record {
+        later = t.later;
+        within = t.within;
+        most = line_most (line_of x) t.fits;
+        rest = λ room.
+            ap (λ (o : Outcome (List ReportLine)). judged o room) (lines_further (line_of x) next further (sym e) (sym f))
+            ∙ line_judged (line_of x) (lines_from s further (k + 1) next) room;
+      }
 
-      pub stays_within : p ≤ length s
-      stays_within = (record_stood s at (line_of x) p there).within
+-- The same by what the reader answers.
 
-      pub has_most : length (printed (line_of x) []) ≤ most_line
-      has_most = line_most (line_of x) (record_stood s at (line_of x) p there).fits
+module _ (s : List ℕ) (stage : Stage) (k at room : ℕ) (going : stage ≡ Ended → ⊥) (r : std.Option (Record × ℕ)) (e : field_of r ≡ record_at s at) where
+  refused_there : stage_after (stage_of stage) (field_of r) ≡ none → judged (lines_from s (stage_of stage) k at) room ≡ Err (FileRecord k)
+  refused_there f =
+      ap (λ (o : Outcome (List ReportLine)). judged o room) (not_due_lem s (stage_of stage) k at (going_on stage going) (ap (λ (y : Field ReportLine). stage_after (stage_of stage) y) (sym e) ∙ f))
 
-      module _ (further : Stage) (f : due (Some further) ≡ after (stage_of stage) (line_of x)) where
-        lines_further : lines_from s (stage_of stage) k at ≡ and_then (lines_from s (stage_of further) (k + 1) p) λ ls. accepted (line_of x ∷ ls)
-        unfolding lines_from
-        lines_further = turn ∙ rw (there, ← f) (go (eqb (stage_of further) ended) (eqb p (length s)))
-          where
-            go : (b c : Bool)
-                → (when b then (when c then accepted (line_of x ∷ []) else refused (FileRecord (k + 1))) else and_then (records_from (length s) s (stage_of further) (k + 1) p) λ ls. accepted (line_of x ∷ ls))
-                ≡ and_then (when b then (when c then accepted [] else refused (FileRecord (k + 1))) else records_from (length s) s (stage_of further) (k + 1) p) (λ ls. accepted (line_of x ∷ ls))
-            go true true = refl
-            go true false = refl
-            go false c = refl
+  -- no record
+  pub judged_none : r ≡ None → judged (lines_from s (stage_of stage) k at) room ≡ Err (FileRecord k)
+  judged_none is = refused_there (ap (λ (y : std.Option (Record × ℕ)). stage_after (stage_of stage) (field_of y)) is)
 
-        pub judged_further : judged (lines_from s (stage_of stage) k at) room ≡ judged (lines_from s (stage_of further) (k + 1) p) (room - length (printed (line_of x) []))
-        judged_further =
-            ap (λ (o : Outcome (List ReportLine)). judged o room) lines_further
-            ∙ line_judged (line_of x) (lines_from s (stage_of further) (k + 1) p) room
+  module _ (x : Record) (p : ℕ) (is : r ≡ Some (x, p)) where
+    there : record_at s at ≡ got (line_of x) p
+    there = sym e ∙ ap field_of is
+
+    -- one that may not come
+    pub judged_not_due : due None ≡ after (stage_of stage) (line_of x) → judged (lines_from s (stage_of stage) k at) room ≡ Err (FileRecord k)
+    judged_not_due f = refused_there (ap (λ (y : std.Option (Record × ℕ)). stage_after (stage_of stage) (field_of y)) is ∙ sym f)
+
+    -- where the next one starts, how long its line is, and the lines after it
+    pub starts_later : at < p
+    starts_later = (record_stood s at (line_of x) p there).later
+
+    pub stays_within : p ≤ length s
+    stays_within = (record_stood s at (line_of x) p there).within
+
+    pub has_most : length (printed (line_of x) []) ≤ most_line
+    has_most = line_most (line_of x) (record_stood s at (line_of x) p there).fits
+
+    pub judged_further : (further : Stage) → due (Some further) ≡ after (stage_of stage) (line_of x)
+        → judged (lines_from s (stage_of stage) k at) room ≡ judged (lines_from s (stage_of further) (k + 1) p) (room - length (printed (line_of x) []))
+    judged_further further f = (due_turn s (stage_of stage) k at (going_on stage going) x p (stage_of further) (sym there) f).rest room
 
 -- The end.
 

@@ -86,11 +86,11 @@ module _ (s before : List ℕ) where
     room_left w same = room_as same (record { fits = omega (arith, b.file.fits) })
 
     -- a record that the reader finds there: where the next one starts, room for its line, and what comes after it
-    record Next (l : ReportLine) (next : ℕ) : Type 0 where
-      later : p < next
-      within : next ≤ length s
-      room : Room buf q (printed l [])
-      further : (after : List ℕ) (r : ℕ) → Inked buf q after r (printed l) → Begun next after r
+    pub record Next (l : ReportLine) (next : ℕ) : Type 0 where
+      pub later : p < next
+      pub within : next ≤ length s
+      pub room : Room buf q (printed l [])
+      pub further : (after : List ℕ) (r : ℕ) → Inked buf q after r (printed l) → Begun next after r
 
     next_read : (l : ReportLine) (ms : List ReportLine) (next : ℕ) → all_lines_fit ms ≡ true → b.text (printed l (report_texts ms)) ≡ whole
         → p < next → next ≤ length s → drop next s ≡ record_texts ms → Next l next
@@ -126,6 +126,24 @@ module _ (s before : List ℕ) where
             let line : m ≡ l = cc in
             next_read l ms next both.1 (ap (λ (y : ReportLine). b.text (printed y (report_texts ms))) (sym line) ∙ same) stood.later stood.within (ap (λ (n : ℕ). drop n s) (sym n) ∙ read.past)
 
+    -- before the file's end there is one
+    pub record NextRead (r : Option (Record × ℕ)) : Type 0 where
+      pub read : Record
+      pub next : ℕ
+      pub is : r ≡ Some (read, next)
+      pub line : Next (line_of read) next
+
+    pub next_line_lem : (r : Option (Record × ℕ)) → p < length s → field_of r ≡ record_at s p → NextRead r
+    unfolding spreadsheet.record_texts spreadsheet.all_lines_fit
+    next_line_lem (Some (x, next)) l e = record { read = x; next = next; is = refl; line = next_line (line_of x) next (sym e) }
+    next_line_lem None l e = go b.left b.fit b.stand
+      where
+        go : (left : List ReportLine) → all_lines_fit left ≡ true → drop p s ≡ record_texts left → NextRead None
+        go [] fit stand = absurd (omega (arith, length-drop p s, ap length stand))
+        go (m ∷ ms) fit stand =
+            let read = record_read m s (record_texts ms) p (both_true (line_fits m) (all_lines_fit ms) fit).0 stand in
+            malformed_not_got m read.next (e ∙ read.is)
+
     module _ (r : Option (Record × ℕ)) (e : field_of r ≡ record_at s p) where
       module _ (x : Record) (next : ℕ) (is : r ≡ Some (x, next)) where
         found : Next (line_of x) next
@@ -152,9 +170,9 @@ module _ (s before : List ℕ) where
         rw (b.file.is, le-ltb (length before) (length whole) b.file.fits) (ap Ok n, bytes)
 
     -- where no record starts there, none is left
-    all_lines : record_at s p ≡ malformed → (Ok q ≡ written_of (spreadsheet_lines s (length before))) × (buf ≡ leaves (spreadsheet_lines s (length before)) before)
+    none_left : record_at s p ≡ malformed → (Ok q ≡ written_of (spreadsheet_lines s (length before))) × (buf ≡ leaves (spreadsheet_lines s (length before)) before)
     unfolding spreadsheet.record_texts spreadsheet.all_lines_fit report.report_texts
-    all_lines e = go b.left b.fit b.stand b.same
+    none_left e = go b.left b.fit b.stand b.same
       where
         go : (left : List ReportLine) → all_lines_fit left ≡ true → drop p s ≡ record_texts left → b.text (report_texts left) ≡ whole
             → (Ok q ≡ written_of (spreadsheet_lines s (length before))) × (buf ≡ leaves (spreadsheet_lines s (length before)) before)
@@ -163,9 +181,17 @@ module _ (s before : List ℕ) where
             let read = record_read m s (record_texts ms) p (both_true (line_fits m) (all_lines_fit ms) fit).0 stand in
             malformed_not_got m read.next (sym e ∙ read.is)
 
+    -- as at the file's end
+    pub all_lines : length s ≤ p → (Ok q ≡ written_of (spreadsheet_lines s (length before))) × (buf ≡ leaves (spreadsheet_lines s (length before)) before)
+    all_lines l = none_left (go (record_at s p) refl)
+      where
+        go : (x : Field ReportLine) → record_at s p ≡ x → x ≡ malformed
+        go (got m next) e = let t = record_stood s p m next e in absurd (omega (arith, t.later, t.within))
+        go malformed e = refl
+
     module _ (r : Option (Record × ℕ)) (e : field_of r ≡ record_at s p) (is : r ≡ None) where
       pub all_told : Ok q ≡ written_of (spreadsheet_lines s (length before))
-      all_told = (all_lines (sym e ∙ ap field_of is)).0
+      all_told = (none_left (sym e ∙ ap field_of is)).0
 
       pub all_written : buf ≡ leaves (spreadsheet_lines s (length before)) before
-      all_written = (all_lines (sym e ∙ ap field_of is)).1
+      all_written = (none_left (sym e ∙ ap field_of is)).1

@@ -1,15 +1,20 @@
 -- The lines of a file's records as what is written one after another, and how long they are at most.
-use Rattle.std.specs.Prelude.{◌≡◌, true, ◌&&◌, List, [], ◌∷◌, ◌++◌, ℕ, ◌+◌, ◌*◌, ◌≤◌, eqb, ℤ, length, drop}
+use Rattle.std.specs.Prelude.{◌≡◌, true, ◌&&◌, List, [], ◌∷◌, ◌++◌, ℕ, ◌+◌, ◌*◌, ◌≤◌, eqb, ℤ, length, drop, Option, Some}
 use Rattle.std.proofs.Common.{ap, sym, ◌∙◌, append_assoc, arith, length-append, eqb-true, leb-true, to_z-of_z, SFits}
 use Rattle.std.specs.Int.{w64}
 use Rattle.rules.specs.Words.{text}
-use Rattle.rules.specs.Fields.{escape, is_label, Chars}
+use Rattle.rules.specs.Fields.{Field, got, malformed, escape, is_label, Chars}
+use Rattle.rules.specs.Record.{chars}
 use Rattle.rules.specs.Report as report
 use Rattle.rules.specs.Report.{ReportLine, hour, pair, internal, end, refusal, signed_text, label_text, amounts_text}
 use Rattle.rules.specs.Spreadsheet.{hour_count, pair_count, open_count, fits64, all_fit, amounts_fit, line_fits}
+use Rattle.rules.specs.declared.Label.{Label}
 use Rattle.laws.specs.Choices.{false_not_true, both_true}
 use Rattle.roundtrip.specs.DeckFits.{escape_most}
 use Rattle.roundtrip.specs.Labels.{label_from_lem}
+use Rattle.read_records.specs.Answers.{line_of, field_of}
+use Rattle.read_records.specs.declared.Record.{Record}
+use Rattle.read_records.specs.declared.Record.TheVariants.{Delivery}
 use Rattle.write_fields.specs.Inked as inked
 use Rattle.write_fields.specs.Inked.{Text}
 use Rattle.write_fields.specs.Texts.{quoted_text}
@@ -23,6 +28,16 @@ source_text s zs rest = quoted_text s (spaced_amounts zs (10 ∷ rest))
 
 abbrev pub pair_text : Chars → ℤ → Chars → List ℤ → Text
 pair_text d n s zs rest = quoted_text d (spaced_amounts (n ∷ []) (32 ∷ source_text s zs rest))
+
+-- the line that was found at a place
+abbrev pub text_of : Field ReportLine → Text
+text_of (got l p) rest = printed l rest
+text_of malformed rest = rest
+
+-- of a record that is read
+pub kind_text : (r : Option (Record × ℕ)) (x : Record) (next : ℕ) → r ≡ Some (x, next) → (rest : List ℕ)
+    → text_of (got (line_of x) next) rest ≡ text_of (field_of r) rest
+kind_text r x next e rest = ap (λ (y : Option (Record × ℕ)). text_of (field_of y) rest) (sym e)
 
 -- no line has more bytes
 abbrev pub most_line : ℕ
@@ -57,6 +72,10 @@ pair_made d n s zs rest =
 -- a delivery's number as it is held
 pub number_held : (z : ℤ) → SFits w64 z → (rest : List ℕ) → spaced_amounts (held z ∷ []) rest ≡ spaced_amounts (z ∷ []) rest
 number_held z h rest = ap (λ (y : ℤ). spaced_amounts (y ∷ []) rest) (to_z-of_z h)
+
+pub pair_held : (r : Option (Record × ℕ)) (d : Label) (n : ℤ) (s : Label) (zs : List ℤ) (next : ℕ) → r ≡ Some (Delivery d n s zs, next) → held n ≡ n → (rest : List ℕ)
+    → printed (pair (chars d) (held n) (chars s) zs) rest ≡ text_of (field_of r) rest
+pair_held r d n s zs next k e rest = ap (λ (z : ℤ). printed (pair (chars d) z (chars s) zs) rest) e ∙ kind_text r (Delivery d n s zs) next k rest
 
 -- Lengths.
 
