@@ -1,8 +1,9 @@
 -- What the answers of the code's searches and sums tell.
-use Rattle.std.specs.Prelude.{◌≡◌, true, false, ℕ, ◌+◌, ◌<◌, ltb, Ok, Err}
-use Rattle.std.proofs.Math.Option.{none, some}
+use Rattle.std.specs.Prelude.{◌≡◌, Bool, true, false, ℕ, ◌+◌, ◌<◌, ◌≤◌, ltb, Option, Some, Ok, Err}
+use Rattle.std.proofs.Common.{ap, lt-ltb, le-ltb}
+use Rattle.std.proofs.Math.Option.{Option as Maybe, none, some}
 use native.Mathlib.Omega.{arith}
-use Rattle.rules.specs.Words.{is_none}
+use Rattle.rules.specs.Words.{is_none, find_to}
 use Rattle.rules.specs.Answers.{verdict_of}
 use Rattle.rules.specs.Sequences.{numbered}
 use Rattle.rules.specs.Reading as reading
@@ -10,8 +11,27 @@ use Rattle.rules.specs.Reading.{generated, delivered, finished}
 use Rattle.rules.specs.Record.{delivery_at}
 use Rattle.rules.specs.declared.Hour.{Hour}
 use Rattle.rules.specs.declared.Refusal.TheVariants.{Overdrawn, Unplaced}
+use Rattle.laws.specs.Lists.{find_to_passes}
 use Rattle.roundtrip.specs.FirstUnplaced.{placer, all_numbered, none_numbered}
+use Rattle.line_rules.specs.Spellings.{spot_of}
 use Rattle.line_rules.specs.Finds.{find_to_zero, find_to_here, find_to_fails}
+
+-- Places found.
+
+spot_found : (x : Maybe ℕ) (r : Option ℕ) (i : ℕ) → r ≡ spot_of x → r ≡ Some i → x ≡ some i
+spot_found none r i e f = cc
+spot_found (some j) r i e f = let q : j ≡ i = cc in ap some q
+
+pub spot_below : (p : ℕ → Bool) (n : ℕ) (r : Option ℕ) (i : ℕ) → r ≡ spot_of (find_to p n) → r ≡ Some i → i < n
+spot_below p n r i e f = (find_to_passes p n i (spot_found (find_to p n) r i e f)).0
+
+-- Sums of known numbers.
+
+pub sum_above : {r s t a b c : ℕ} → r ≡ a → s ≡ b → t ≡ c → r < s + t → ltb a (b + c) ≡ true
+sum_above {r} {s} {t} {a} {b} {c} x y z h = lt-ltb a (b + c) (omega arith)
+
+pub sum_within : {r s t a b c : ℕ} → r ≡ a → s ≡ b → t ≡ c → s + t ≤ r → ltb a (b + c) ≡ false
+sum_within {r} {s} {t} {a} {b} {c} x y z h = le-ltb a (b + c) (omega arith)
 
 -- After E: 10, and 11 by the first delivery with a number of its own.
 
