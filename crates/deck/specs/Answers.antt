@@ -1,15 +1,28 @@
 -- What the deck's readers answer where the rules say what a deck comes to.
-use Rattle.std.specs.Prelude.{◌≡◌, List, ℕ, ◌+◌, ◌≤◌, length, get_or, Result, Ok, Err, IfOk}
-use Rattle.rules.specs.Answers.{answer_of}
-use Rattle.rules.specs.Refusals.{Outcome}
+use Rattle.std.specs.Prelude.{◌≡◌, refl, List, ℕ, ◌+◌, ◌≤◌, length, get_or, Result, Ok, Err, IfOk, MatchResult}
+use Rattle.std.proofs.Common.{sym, ◌∙◌}
+use Rattle.rules.specs.Answers.{answer_of, verdict_of}
+use Rattle.rules.specs.Refusals.{Outcome, accepted, refused}
 use Rattle.rules.specs.Fields as fields
 use Rattle.rules.specs.Fields.{bytes_at}
 use Rattle.rules.specs.Calls.{source_part_of, delivery_part_of}
 use Rattle.rules.specs.Places.{label_start, part_start, sources_of}
 use Rattle.rules.specs.declared.Hour.{Hour}
 use Rattle.rules.specs.declared.Refusal.{Refusal}
+use Rattle.laws.specs.Answers.{answer_accepted, answer_refused}
 use Rattle.read_fields.specs.declared.Place.{Place}
 use Rattle.deck.specs.declared.ScannedDeck.{ScannedDeck}
+
+-- which outcome an answer tells
+pub verdict_told : (o : Outcome Hour) → MatchResult (answer_of o) (λ h. verdict_of o ≡ Ok tt) (λ r. verdict_of o ≡ Err r)
+verdict_told (accepted h) = refl
+verdict_told (refused r) = refl
+
+pub read_accepted : (o : Outcome Hour) (x : Result Hour Refusal) (h : Hour) → x ≡ answer_of o → x ≡ Ok h → accepted h ≡ o
+read_accepted o x h e p = sym (answer_accepted o h (sym e ∙ p))
+
+pub read_refused : (o : Outcome Hour) (x : Result Hour Refusal) (r : Refusal) → x ≡ answer_of o → x ≡ Err r → refused r ≡ o
+read_refused o x r e p = sym (answer_refused o r (sym e ∙ p))
 
 -- Places.
 

@@ -86,6 +86,9 @@ head_follows s = by_length (ltb 8192 (length s))
 pub reading_rows : (s : List ℕ) (x : Result HeadLine Refusal) → x ≡ head_step s 0 → rows_after s x ≡ reading s
 reading_rows s x e = ap (rows_after s) e ∙ rows_after_head s
 
+pub rows_after_told : (s : List ℕ) (x : Result HeadLine Refusal) → x ≡ head_step s 0 → rows_after s x ≡ reading s
+rows_after_told s x e = reading_rows s x e
+
 pub reading_follows : (s : List ℕ) (x : Result HeadLine Refusal) → x ≡ head_step s 0 → Follows s x
 reading_follows s x e = subst (Follows s) (sym e) (head_follows s)
 

@@ -9,6 +9,9 @@ use Rattle.rules.specs.declared.Unit as unit
 use Rattle.read_fields.specs.declared.Place.{Place}
 use Rattle.read_lines.specs.Answers.{unit_line, purchase_line, fixed_line, delivery_line, direct_line}
 use Rattle.read_lines.specs.Cut.{LabelStands, line_stands}
+use Rattle.read_lines.specs.declared.UnitLine.{UnitLine}
+use Rattle.read_lines.specs.declared.PurchaseLine.{PurchaseLine}
+use Rattle.read_lines.specs.declared.FixedLine.{FixedLine}
 use Rattle.read_lines.specs.declared.DeliveryLine.{DeliveryLine}
 use Rattle.read_lines.specs.declared.DirectLine.{DirectLine}
 use Rattle.deck.specs.Answers.{place_at}
@@ -44,6 +47,27 @@ module _ (s : List ℕ) (at : ℕ) where
       go (got v next) e = (line_stands s F at v next e).labels.0
       go malformed e = tt
 
+  pub unit_told : (l : UnitLine) → unit_line (places_at s at U) ≡ Some l → StandsAt s l.label
+  unit_told l e = MatchOption-at_some _ (λ l. StandsAt s l.label) l e (go (places_at s at U) refl)
+    where
+      go : (f : Field (Fields fields.Place (fields_of U))) → places_at s at U ≡ f → IfSome (unit_line f) (λ l. StandsAt s l.label)
+      go (got v next) e = (line_stands s U at v next e).labels.0
+      go malformed e = tt
+
+  pub purchase_told : (l : PurchaseLine) → purchase_line (places_at s at P) ≡ Some l → StandsAt s l.label
+  purchase_told l e = MatchOption-at_some _ (λ l. StandsAt s l.label) l e (go (places_at s at P) refl)
+    where
+      go : (f : Field (Fields fields.Place (fields_of P))) → places_at s at P ≡ f → IfSome (purchase_line f) (λ l. StandsAt s l.label)
+      go (got v next) e = (line_stands s P at v next e).labels.0
+      go malformed e = tt
+
+  pub fixed_told : (l : FixedLine) → fixed_line (places_at s at F) ≡ Some l → StandsAt s l.label
+  fixed_told l e = MatchOption-at_some _ (λ l. StandsAt s l.label) l e (go (places_at s at F) refl)
+    where
+      go : (f : Field (Fields fields.Place (fields_of F))) → places_at s at F ≡ f → IfSome (fixed_line f) (λ l. StandsAt s l.label)
+      go (got v next) e = (line_stands s F at v next e).labels.0
+      go malformed e = tt
+
   -- a source line, by its letter
   pub source_told : (letter : ℕ) (l : SourceLine) → plant_from s at letter ≡ Some l → StandsAt s l.label
   source_told letter l e = MatchOption-at_some _ (λ l. StandsAt s l.label) l e (go (eqb letter 85) (eqb letter 80) (eqb letter 70))
@@ -68,3 +92,10 @@ module _ (s : List ℕ) (at : ℕ) where
       go : (f : Field (Fields fields.Place (fields_of D))) → places_at s at D ≡ f → IfSome (direct_line f) (λ l. StandsAt s l.unit × StandsAt s l.delivery)
       go (got v next) e = let k = (line_stands s D at v next e).labels in (k.0, k.1.0)
       go malformed e = tt
+
+  module _ (l : DirectLine) (e : direct_line (places_at s at D) ≡ Some l) where
+    pub unit_named_told : StandsAt s l.unit
+    unit_named_told = (direct_told l e).0
+
+    pub delivery_named_told : StandsAt s l.delivery
+    delivery_named_told = (direct_told l e).1

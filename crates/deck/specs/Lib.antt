@@ -7,3 +7,4 @@ pub mod Entries
 pub mod Rows
 pub mod FirstLine
 pub mod Head
+pub mod Checks

@@ -291,9 +291,17 @@ refused_kept o r e h k = refused_not_accepted r h (sym e ∙ k)
 pub scanned_refused : (s : List ℕ) (o : Outcome Hour) (r : Refusal) → o ≡ refused r → Scanned s o (Err r)
 scanned_refused s o r e = rw e (record { answer = refl; sources = tt; deliveries = tt })
 
+pub answer_refused : (s : List ℕ) (o : Outcome Hour) (r : Refusal) (x : Result ScannedDeck Refusal) → x ≡ Err r → o ≡ refused r → Scanned s o x
+answer_refused s o r x e k = subst (Scanned s o) (sym e) (scanned_refused s o r k)
+
 -- what was kept of a deck that is accepted
 pub scanned_kept : (s : List ℕ) (o : Outcome Hour) (x : ScannedDeck) → Ok tt ≡ verdict_of o → ((h : Hour) → o ≡ accepted h → KeepsAll s h x) → Scanned s o (Ok x)
 scanned_kept s (accepted h) x e k =
     let w = k h refl in
     record { answer = ap Ok w.hour; sources = w.sources; deliveries = w.deliveries }
 scanned_kept s (refused r) x e k = absurd cc
+
+-- what the loop keeps, where the deck ends and the verdict on it accepts
+pub rows_accepted : {s : List ℕ} {o : Outcome Hour} {losses : ℕ} {n : Counts} {t : Tables} {u : Totals} {x : ScannedDeck} {at : ℕ} (w : Rows KeepsAll s o losses n t u x at)
+    (v : Result (Unit {0}) Refusal) → Whole o w.hour v → v ≡ Ok tt → Scanned s o (Ok x)
+rows_accepted {s} {o} {x = x} w v e a = scanned_kept s o x (sym a ∙ e.verdict) (rows_kept w v e)
