@@ -115,3 +115,11 @@ module _ (s : List ℕ) (i : ℕ) where
         go : (c : Class) → part_of c s i ≡ []
         go Source = rw is
         go Delivery = rw is
+
+  -- what past_stands says, by the class's own words
+  module _ (past : 32 ≤ i) where
+    pub no_source : Stands s (source_start s i) (source_part s i) nowhere
+    no_source = past_stands Source past
+
+    pub no_delivery_lem : Stands s (delivery_start s i) (delivery_part s i) nowhere
+    no_delivery_lem = past_stands Delivery past

@@ -1,11 +1,11 @@
 // Where a label's own bytes stand in its deck: as the part of the deck, and as one number. Its place comes from the one pass that reads the deck.
-// The contracts cite rules' Calls and Places by a label's class (Classes), and Stands for a place that is a label's.
+// The contracts cite rules' Calls and Places, also by a label's class (Classes), and Stands for a place that is a label's.
 #![tactic(auto)]
 
 ghost use Rattle.std.specs.Prelude.{◌≡◌, ◌+◌, ◌-◌, ◌≤◌, ◌++◌, length};
 ghost use Rattle.rules.specs.Answers.{written_of};
-ghost use Rattle.rules.specs.Calls.{leaves};
-ghost use Rattle.rules.specs.Places.{place_code, labelling};
+ghost use Rattle.rules.specs.Calls.{leaves, source_part, delivery_part};
+ghost use Rattle.rules.specs.Places.{source_start, delivery_start, place_code, source_place, delivery_place, labelling};
 ghost use Rattle.write_fields.specs.Inked.{Inked};
 ghost use Rattle.label_places.specs.Classes.{part_of, start_of, place_of};
 ghost use Rattle.label_places.specs.Codes.{codes, CodesFit};
@@ -50,6 +50,22 @@ pub fn label<'a>(s: &'a [u8], class: Class, i: usize) -> &'a [u8]
     deck::part_at(s, p)
 }
 
+// The part of the deck at the own bytes of source i's label.
+pub fn source_label<'a>(s: &'a [u8], i: usize) -> &'a [u8]
+    ensures bytes { result.now ≡ source_part s.now i }
+    ensures place { result.ref_ptr ≡ (s.entry.ref_ptr.0, source_start s.now i + s.entry.ref_ptr.1) }
+{
+    label(s, Class::Source, i)
+}
+
+// The same of delivery j.
+pub fn delivery_label<'a>(s: &'a [u8], j: usize) -> &'a [u8]
+    ensures bytes { result.now ≡ delivery_part s.now j }
+    ensures place { result.ref_ptr ≡ (s.entry.ref_ptr.0, delivery_start s.now j + s.entry.ref_ptr.1) }
+{
+    label(s, Class::Delivery, j)
+}
+
 // Places as numbers.
 
 fn code_of(p: Place) -> u64
@@ -66,6 +82,20 @@ pub fn place(s: &[u8], class: Class, i: usize) -> u64
 {
     let p = place_at(s, class, i);
     code_of(p)
+}
+
+// Where the own bytes of source i's label stand in the deck.
+pub fn source_place(s: &[u8], i: usize) -> u64
+    ensures { result ≡ source_place s.now i }
+{
+    place(s, Class::Source, i)
+}
+
+// The same of delivery j.
+pub fn delivery_place(s: &[u8], j: usize) -> u64
+    ensures { result ≡ delivery_place s.now j }
+{
+    place(s, Class::Delivery, j)
 }
 
 // All places at once.
