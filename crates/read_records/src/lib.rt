@@ -8,8 +8,11 @@ ghost use Rattle.read_records.specs.Answers.{NonZero, passed, signed_field, char
 
 use rules::Label;
 
-// How many amounts each kind of record has, of the fields n1 to n4.
-pub const HOUR_COUNT: usize = 4;
+// The fields n1 to n4.
+pub const AMOUNTS: usize = 4;
+
+// How many of them each kind of record has.
+pub const HOUR_COUNT: usize = AMOUNTS;
 
 pub const PAIR_COUNT: usize = 3;
 
