@@ -2,7 +2,7 @@
 // The contracts cite rules' Fields and Record for what stands in the deck, and Answers for how that is answered.
 #![tactic(auto)]
 
-ghost use Rattle.std.specs.Prelude.{◌≡◌, false, ◌≤◌, ◌<◌, length, get_or};
+ghost use Rattle.std.specs.Prelude.{◌≡◌, false, ◌≤◌, ◌<◌, length, get_or, IfSome};
 ghost use Rattle.rules.specs.Fields.{is_digit, is_character, is_escaped, byte_at, number_at, label_end, unescape, spaced_number, spaced_basis, basis_at, spaced_label};
 ghost use Rattle.rules.specs.Record.{label_of};
 ghost use Rattle.read_fields.specs.Answers.{step_of, DigitOf, number_cut, number_field, basis_field, end_of, label_field};
@@ -49,7 +49,8 @@ pub fn is_digit(b: u8) -> bool
 // The first of digits without a leading zero.
 #[tactic(auto, using(crate::proofs::Numbers::number_steps))]
 pub fn first_digit(s: &[u8], at: usize) -> Option<(u8, usize)>
-    ensures { DigitOf s.now (number_at s.now at) result }
+    ensures digit { DigitOf s.now (number_at s.now at) result }
+    ensures within { IfSome result (λ x. x.1 ≤ length s.now) }
 {
     let first = peek(s, at);
     if !is_digit(first) {
@@ -70,15 +71,9 @@ pub fn first_digit(s: &[u8], at: usize) -> Option<(u8, usize)>
 pub fn number_up_to<const MOST: u64>(s: &[u8], at: usize) -> Option<(u64, usize)>
     ensures { result ≡ number_cut MOST (number_at s.now at) }
 {
-    let first = peek(s, at);
-    if !is_digit(first) {
-        return None;
-    }
-    if first == b'0' && is_digit(peek(s, at + 1)) {
-        return None;
-    }
-    let mut v = u64::from(first - b'0').min(MOST);
-    for i in at + 1..s.len() {
+    let (digit, start) = first_digit(s, at)?;
+    let mut v = u64::from(digit).min(MOST);
+    for i in start..s.len() {
         let b = s[i];
         if !is_digit(b) {
             return Some((v, i));
