@@ -1,6 +1,6 @@
 -- The texts of bytes, numbers and labels before the rest, and how each is made piece by piece.
-use Rattle.std.specs.Prelude.{◌≡◌, refl, Bool, true, false, List, [], ◌∷◌, ◌++◌, ℕ, ◌+◌, ◌/◌, ◌%◌, ◌^◌, ◌≤◌, ◌<◌, length, get_or, drop}
-use Rattle.std.proofs.Common.{ap, sym, ◌∙◌, append_assoc, append-nil, add-one, arith, drop_of_length-le, drop-cons}
+use Rattle.std.specs.Prelude.{◌≡◌, refl, Bool, true, false, List, [], ◌∷◌, ◌++◌, ℕ, zero, suc, ◌+◌, ◌/◌, ◌%◌, ◌^◌, ◌≤◌, ◌<◌, length, get_or, take, drop}
+use Rattle.std.proofs.Common.{ap, sym, ◌∙◌, append_assoc, append-nil, add-one, arith, take_all, drop_of_length-le, drop-cons}
 use Rattle.rules.specs.Words.{when◌then◌else◌}
 use Rattle.rules.specs.Fields as fields
 use Rattle.rules.specs.Fields.{is_escaped, escape, digits, Chars, basis_text}
@@ -124,14 +124,20 @@ escape_first c cs rest = go (is_escaped c)
     go true = refl
     go false = refl
 
-escape_each : (cs : Chars) (rest : List ℕ) → up_to (character_at cs) (length cs) rest ≡ escape_text cs rest
+-- the first n bytes, each in its turn
+pub escape_all : (n : ℕ) (bs : List ℕ) (rest : List ℕ) → up_to (character_at bs) (length (take n bs)) rest ≡ escape_text (take n bs) rest
 unfolding fields.escape inked.up_to
-escape_each [] rest = refl
-escape_each (c ∷ cs) rest = up_to_first (character_at (c ∷ cs)) (length cs) rest ∙ ap (character_text c) (escape_each cs rest) ∙ escape_first c cs rest
+escape_all zero bs rest = refl
+escape_all (suc n) [] rest = refl
+escape_all (suc n) (b ∷ bs) rest =
+    up_to_first (character_at (b ∷ bs)) (length (take n bs)) rest ∙ ap (character_text b) (escape_all n bs rest) ∙ escape_first b (take n bs) rest
 
--- characters, each in its turn
-pub escape_all : {bs cs : Chars} → bs ≡ cs → (rest : List ℕ) → up_to (character_at bs) (length bs) rest ≡ escape_text cs rest
-escape_all {bs} e rest = escape_each bs rest ∙ ap (λ (w : Chars). escape_text w rest) e
+-- all of them
+pub escape_whole : {bs cs : Chars} → bs ≡ cs → (rest : List ℕ) → up_to (character_at bs) (length bs) rest ≡ escape_text cs rest
+escape_whole {bs} e rest =
+    let same : take (length bs) bs ≡ bs = take_all (length bs) bs (omega arith) in
+    let each : up_to (character_at bs) (length bs) rest ≡ escape_text bs rest = rw same at (escape_all (length bs) bs rest) in
+    each ∙ ap (λ (w : Chars). escape_text w rest) e
 
 -- A part's bytes one after another.
 

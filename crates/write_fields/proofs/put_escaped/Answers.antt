@@ -3,7 +3,7 @@ use native.Mathlib.Omega.{arith}
 use lib.ListN.{length, get_or}
 use Rattle.rules.specs.Fields.{escape}
 use Rattle.write_fields.specs.Inked.{inked_none, inked_more, inked_all, room_next, room_as, front_list}
-use Rattle.write_fields.specs.Texts.{character_at, escape_all}
+use Rattle.write_fields.specs.Texts.{character_at, escape_whole}
 use Rattle.write_fields.proofs.put_escaped.Goals as goal
 
 pub loop-c-init : goal.loop-c-init
@@ -12,7 +12,7 @@ loop-c-init c = inked_none _ _ _
 pub put_character-p-requires : goal.put_character-p-requires
 put_character-p-requires c =
     let cs = c.characters-c-items.result.now in
-    room_next (character_at cs) (λ i. front_list (escape (get_or cs i 0 ∷ []))) c.loop-c.c-index (length cs) (omega arith) c.loop-c.invariant (room_as (escape_all c.characters-c-items.ensures.0 []) c.requires)
+    room_next (character_at cs) (λ i. front_list (escape (get_or cs i 0 ∷ []))) c.loop-c.c-index (length cs) (omega arith) c.loop-c.invariant (room_as (escape_whole c.characters-c-items.ensures.0 []) c.requires)
 
 pub loop-c-preserved : goal.loop-c-preserved
 loop-c-preserved c =
@@ -21,4 +21,4 @@ loop-c-preserved c =
 pub returns : goal.returns
 returns c =
     let cs = c.characters-c-items.result.now in
-    inked_all (character_at cs) c.loop-c.c-index (length cs) (escape_all c.characters-c-items.ensures.0) (omega arith) c.loop-c.invariant
+    inked_all (character_at cs) c.loop-c.c-index (length cs) (escape_whole c.characters-c-items.ensures.0) (omega arith) c.loop-c.invariant
