@@ -1,4 +1,5 @@
 pub mod Matches
 pub mod Placings
+pub mod RuleByRule
 pub mod SameGroups
 pub mod NextKey

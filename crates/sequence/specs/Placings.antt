@@ -4,11 +4,11 @@ use mathlib.Core.Option as maybe
 use Rattle.std.specs.Prelude.{Bool, Option, unwrap_or, ◌≡◌, length, get_or, set, take, replicate}
 use Rattle.std.proofs.Math.Option.{none, some}
 use Rattle.std.proofs.Math.Path.{refl}
-use Rattle.std.proofs.Common.{length-take-le}
+use Rattle.std.proofs.Common.{◌∙◌, length-take-le}
 use Prim.Native.Nat.{ℕ, zero, suc, ◌+◌, ◌-◌, ◌≤◌, ◌<◌}
 use Rattle.std.proofs.Math.Numerals.{add-one}
 use native.Mathlib.Omega.{arith}
-use Rattle.std.proofs.Math.ListN.{length-take, length-map}
+use Rattle.std.proofs.Math.ListN.{length-append, length-take, length-map, length-replicate}
 use Rattle.std.proofs.Math.Seq.{take-suc}
 use Rattle.std.proofs.lemmas.List.{set_at, get_or-take}
 use Rattle.rules.specs.Hour.{no_number, no_key, or_none, keys, key_at}
@@ -36,6 +36,12 @@ abbrev pub placings : List Delivery → ℕ → List Key
 placings ts n = placings_to ts n n
 
 module _ (ts : List Delivery) (n : ℕ) where
+  pub length_placings : length ts ≡ 32 → length (placings ts n) ≡ 32
+  unfolding placings_to
+  length_placings e =
+      length-append (map (key_for ts n) (take n ts)) (replicate (32 - n) no_key) ∙
+      omega (arith, length-map (take n ts) (key_for ts n), length-take n ts, length-replicate (32 - n) no_key)
+
   pub placings_none : replicate 32 no_key ≡ placings_to ts n 0
   unfolding placings_to
   placings_none = refl
@@ -49,6 +55,9 @@ module _ (ts : List Delivery) (n : ℕ) where
       let f = key_for ts n in
       rw (q, left, p, add-one i, past, take-suc ts i no_delivery (omega arith), map-append f (take i ts) (get_or ts i no_delivery ∷ []), append_assoc (map f (take i ts)) (f (get_or ts i no_delivery) ∷ []) (replicate (31 - i) no_key))
       (set_at (map f (take i ts)) no_key (replicate (31 - i) no_key) (f (get_or ts i no_delivery)) i (omega (arith, length-map (take i ts) f, length-take i ts)))
+
+  pub placings_end : (i : ℕ) (ks : List Key) → i ≤ n → n ≤ i → ks ≡ placings_to ts n i → ks ≡ placings ts n
+  placings_end i ks a b q = let e : i ≡ n = omega arith in rw e at q
 
 -- the first n alone have the same numbers
 module _ (ts : List Delivery) (n : ℕ) where
