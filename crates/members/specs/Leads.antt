@@ -8,7 +8,7 @@ use Rattle.balance.specs.AnswerCells.{cell_at, pair_place}
 use Rattle.laws.specs.Keys.{key_same, key_itself}
 use Rattle.laws.specs.Sums.{below_suc, sum_to_zero}
 use Rattle.members.specs.Live.{amount_at, amount_told}
-use Rattle.members.specs.Members.{MwhsSmall, MwhsOf, scheduled_in, share_in, due_in, RowsGiven, RowsWritten, mwhs_small, scheduled_in_lem}
+use Rattle.members.specs.Members.{MwhsSmall, MwhsOf, scheduled_in, share_in, due_in, RowsGiven, RowsWritten, earlier, mwhs_small, scheduled_in_lem}
 use Rattle.members.specs.Shared.{DeliveriesSmall}
 use Rattle.merit.specs.LevelNeverBelowB.{state_at}
 use Rattle.merit.specs.NumbersStaySmall.{Small}
@@ -89,6 +89,14 @@ pub record Leading (sources n : ℕ) (ms : List ℕ) (ks : List Key) (led : List
   pub beyond : (p : ℕ) → n * (sources * pair_width) ≤ p → cell_at ys p ≡ cell_at xs p
 
 module _ (sources n : ℕ) (ms : List ℕ) (ks : List Key) (led : List ℕ) (es : List Running) (kept : List ℕ) (xs : List ℤ) (g : AllGiven sources n ms ks led es kept xs) where
+  pub leading_none : Leading sources n ms ks led es kept xs 0 xs
+  leading_none = record {
+    long = refl;
+    rows = λ i k q l. absurd (omega arith);
+    blank = λ k q l m f. g.blank (k * (sources * pair_width) + q) (earlier k n (sources * pair_width) q l m);
+    beyond = λ p l. refl;
+  }
+
   pub leading_skip : (j : ℕ) (ys : List ℤ) → get_or led j 0 ≤ 0 → Leading sources n ms ks led es kept xs j ys → Leading sources n ms ks led es kept xs (j + 1) ys
   leading_skip j ys z s = record {
     long = s.long;
@@ -151,6 +159,13 @@ module _ (sources n : ℕ) (ms : List ℕ) (ks : List Key) (led : List ℕ) (es 
             go : (b : Bool) → member ks (key_at ks j) k ≡ b → b ≡ false
             go true h = absurd (never f (apart i k m h))
             go false h = refl
+
+  pub leading_all : (j : ℕ) (ys : List ℤ) → j ≤ n → n ≤ j → Leading sources n ms ks led es kept xs j ys → AllShared sources n ms ks led es kept xs ys
+  leading_all j ys l m s = record {
+    long = s.long;
+    rows = λ i k q o. s.rows i k q (omega arith);
+    beyond = s.beyond;
+  }
 
 -- In the hour's words.
 
