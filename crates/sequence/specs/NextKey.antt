@@ -1,13 +1,13 @@
 -- The first key after x that a delivery has: it has a member, and none between has one. It is the next of the turns that are left.
-use Rattle.std.specs.Prelude.{Bool, true, false, List, [], ◌∷◌, ◌≡◌, refl, ℕ, zero, suc, ◌≤◌, ◌<◌, length, get_or, take, filter, Contains, Option, Some, None, IfSome, MatchOption}
-use Rattle.std.proofs.Common.{cond, sym, ap, subst, ◌∙◌, ltb-true, lt-ltb, length-take}
+use Rattle.std.specs.Prelude.{Bool, true, false, ◌&&◌, List, [], ◌∷◌, ◌≡◌, refl, ℕ, zero, suc, ◌+◌, ◌≤◌, ◌<◌, length, get_or, take, filter, Contains, Option, Some, None, IfSome, MatchOption}
+use Rattle.std.proofs.Common.{cond, sym, ap, subst, ◌∙◌, add-one, ltb-true, ltb-false, lt-ltb, length-take}
 use native.Mathlib.Omega.{arith}
 use Rattle.laws.specs.Choices.{true_not_false}
 use Rattle.std.proofs.lemmas.List.{get_or_default, get_or-take}
 use Rattle.laws.specs.Sums.{sum_to_zero}
-use Rattle.laws.specs.Keys.{key_same, found_counted, among, among_first, among_either, Turns, turns_rest, turns_first, first_before}
+use Rattle.laws.specs.Keys.{key_same, key_itself, key_other, found_counted, among, among_first, among_either, Turns, turns_rest, turns_first, first_before}
 use Rattle.rules.specs.Hour.{no_key, key_at, member, counted, goes_before}
-use Rattle.rules.specs.Words.{when◌then◌else◌}
+use Rattle.rules.specs.Words.{when◌then◌else◌, sum_to}
 use Rattle.rules.specs.declared.Key.{Key}
 use Rattle.std.specs.List.{All}
 
@@ -16,6 +16,67 @@ pub record Next (ks : List Key) (n : ℕ) (x : Key) (r : Option Key) : Type 0 wh
   pub after : IfSome r (λ k. goes_before x k ≡ true)
   pub found : IfSome r (λ k. 0 < counted ks k n)
   pub none : (y : Key) → goes_before x y ≡ true → IfSome r (λ k. goes_before y k ≡ true) → counted ks y n ≡ 0
+
+-- Delivery by delivery.
+
+-- whether the best so far, if there is one, comes after y
+abbrev pub farther : Option Key → Key → Bool
+farther None y = true
+farther (Some x) y = goes_before y x
+
+-- of the best so far and y the one that comes first, where y comes after x
+abbrev pub nearer_of : Option Key → Key → Key → Option Key
+nearer_of best y x = when goes_before x y && farther best y then Some y else best
+
+pub next_start : (ks : List Key) (x : Key) → Next ks 0 x None
+unfolding sum_to
+next_start ks x = record { after = tt; found = tt; none = λ y l f. refl }
+
+pub next_end : (ks : List Key) (x : Key) (n j : ℕ) (r : Option Key) → j ≤ n → n ≤ j → Next ks j x r → Next ks n x r
+next_end ks x n j r a b h = let e : j ≡ n = omega arith in rw e at h
+
+-- one delivery more
+module _ (ks : List Key) (x : Key) (n : ℕ) where
+  abbrev y : Key
+  y = key_at ks n
+
+  -- a number that delivery n has not is counted as before
+  other : (z : Key) → (y.number.0 ≡ z.number.0 → ⊥) → counted ks z n ≡ 0 → counted ks z (suc n) ≡ 0
+  unfolding sum_to
+  other z f e = rw (key_other y z f) (omega arith)
+
+  itself : 0 < counted ks y (suc n)
+  unfolding sum_to
+  itself = rw (key_itself y) (omega arith)
+
+  still : (z : Key) → 0 < counted ks z n → 0 < counted ks z (suc n)
+  unfolding sum_to
+  still z l = omega arith
+
+  apart : (z w : Key) → goes_before w z ≡ true → z.number.0 < w.number.0
+  apart z w e = ltb-true z.number.0 w.number.0 e
+
+  step : (best : Option Key) → Next ks n x best → Next ks (suc n) x (nearer_of best y x)
+  step None h = go (goes_before x y) refl
+    where
+      go : (a : Bool) → goes_before x y ≡ a → Next ks (suc n) x (when a && true then Some y else None)
+      go false e = record { after = tt; found = tt; none = λ z l f. other z (λ q. omega (arith, ltb-false y.number.0 x.number.0 e, apart z x l)) (h.none z l tt) }
+      go true e = record { after = e; found = itself; none = λ z l f. other z (λ q. omega (arith, apart y z f)) (h.none z l tt) }
+  step (Some k) h = go (goes_before x y) (goes_before y k) refl refl
+    where
+      go : (a b : Bool) → goes_before x y ≡ a → goes_before y k ≡ b → Next ks (suc n) x (when a && b then Some y else Some k)
+      go false b e g = record { after = h.after; found = still k h.found; none = λ z l f. other z (λ q. omega (arith, ltb-false y.number.0 x.number.0 e, apart z x l)) (h.none z l f) }
+      go true false e g = record { after = h.after; found = still k h.found; none = λ z l f. other z (λ q. omega (arith, ltb-false k.number.0 y.number.0 g, apart k z f)) (h.none z l f) }
+      go true true e g = record {
+        after = e;
+        found = itself;
+        none = λ z l f. let a = apart y z f in other z (λ q. omega arith) (h.none z l (lt-ltb k.number.0 z.number.0 (omega (arith, apart k y g))));
+      }
+
+  pub next_more : (best : Option Key) → Next ks n x best → (r : Option Key) → r ≡ nearer_of best y x → Next ks (n + 1) x r
+  next_more best h r e = rw (add-one n, e) (step best h)
+
+-- All at once.
 
 -- what holds of all that pass
 all_filtered : (p : Key → Bool) (P : Key → Type 0) (xs : List Key) → All P (filter p xs) → (j : ℕ) (d : Key) → j < length xs → p (get_or xs j d) ≡ true → P (get_or xs j d)
