@@ -98,6 +98,10 @@ module _ (a : ℕ → Amount) where
     amount = s.amount;
   }
 
+  -- a place of size 0 is not counted
+  pub listed_skip : (q : ℕ) (xs : List Placed) → Listed a q xs → (a q).size ≡ 0 → Listed a (q + 1) xs
+  listed_skip q xs s e = listed_idle q (q + 1) xs (omega arith) (λ p l m. let here : p ≡ q = omega arith in omega (arith, ap (λ (p : ℕ). (a p).size) here, e)) s
+
   -- one more
   module _ (q : ℕ) (xs : List Placed) (s : Listed a q xs) (x : Taken) (e : amount_of x ≡ a q) where
     abbrev ys : List Placed
@@ -123,7 +127,7 @@ module _ (a : ℕ → Amount) where
     reached_kept zero l = refl
     reached_kept (suc i) l = ap (λ (n : ℕ). n + 1) (kept_place i (omega arith))
 
-    listed_more : Listed a (q + 1) ys
+    pub listed_more : Listed a (q + 1) (xs ++ record { place = q; amount = x } ∷ [])
     listed_more = record {
       place = λ i l. each (λ i. place_at ys i < q + 1) (λ i m. omega (arith, kept_place i m, s.place i m)) (omega (arith, here_place)) i l;
       rises = λ i l. each (λ i. reached ys i ≤ place_at ys i)
@@ -145,8 +149,11 @@ module _ (a : ℕ → Amount) where
   listed_pushed q xs s x e = go (eqb x.size 0) refl
     where
       go : (b : Bool) → eqb x.size 0 ≡ b → Listed a (q + 1) (when b then xs else xs ++ record { place = q; amount = x } ∷ [])
-      go true z = listed_idle q (q + 1) xs (omega arith) (λ p l m. let here : p ≡ q = omega arith in omega (arith, ap (λ (p : ℕ). (a p).size) here, ap (λ (t : Amount). t.size) e, eqb-true x.size 0 z)) s
+      go true z = listed_skip q xs s (omega (arith, ap (λ (t : Amount). t.size) e, eqb-true x.size 0 z))
       go false z = listed_more q xs s x e
+
+  pub listed_all : (width q : ℕ) (xs : List Placed) → q ≤ width → width ≤ q → Listed a q xs → Listed a width xs
+  listed_all width q xs l m s = let e : q ≡ width = omega arith in rw e at s
 
 -- The items of one source.
 
