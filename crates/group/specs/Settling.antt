@@ -73,6 +73,9 @@ module _ (ss : List Running) {o : Outcome (List Running)} where
   pub settled_done : {us ws : List Running} → us ≡ ws → o ≡ accepted ws → Settled ss o (Ok tt) us
   settled_done b e = record { verdict = ap verdict_of (sym e); states = b ∙ ap (states_of ss) (sym e) }
 
+  pub settled_end : {r : Result (Unit {0}) Refusal} {us ws : List Running} → r ≡ Ok tt → us ≡ ws → o ≡ accepted ws → Settled ss o r us
+  settled_end v s q = record { verdict = v ∙ ap verdict_of (sym q); states = s ∙ ap (states_of ss) (sym q) }
+
   pub settled_refused : {x : Refusal} → o ≡ refused x → Settled ss o (Err x) ss
   settled_refused e = record { verdict = ap verdict_of (sym e); states = ap (states_of ss) (sym e) }
 
