@@ -37,6 +37,9 @@ abbrev pub past : Option Key → ℕ
 past None = 0
 past (Some x) = suc x.number.0
 
+pub past_there : (next : Option Key) (x : Key) → next ≡ Some x → past next ≡ suc x.number.0
+past_there next x e = ap past e
+
 pub past_most : (ks : List Key) (n : ℕ) (x : Key) (next : Option Key) → Next ks n x next → past next ≤ x.number.0
 past_most ks n x None f = omega arith
 past_most ks n x (Some y) f = omega (arith, ltb-true y.number.0 x.number.0 f.after)
