@@ -89,6 +89,9 @@ pub record OpenPut (ss : List Running) (at n : ℕ) (xs ys : List ℤ) : Type 0 
   pub beyond : (m : ℕ) → at + n * open_width ≤ m → cell_at ys m ≡ cell_at xs m
 
 module _ (ss : List Running) (at : ℕ) (xs : List ℤ) where
+  pub open_none : OpenPut ss at 0 xs xs
+  open_none = record { long = refl; before = λ m l. refl; inside = λ i k b l. absurd (omega arith); beyond = λ m l. refl }
+
   pub open_more : (n : ℕ) (amounts : List ℕ) (ys zs : List ℤ) → OpenPut ss at n xs ys → amounts ≡ map (λ item. open_amount item (state_at ss n)) open_items → AmountsPut (at + n * open_width) amounts open_width ys zs → OpenPut ss at (n + 1) xs zs
   open_more n amounts ys zs p e a = record {
     long = a.long ∙ p.long;
@@ -103,6 +106,9 @@ module _ (ss : List Running) (at : ℕ) (xs : List ℤ) where
       here k b =
           let z : at + (n * open_width + k) ≡ at + n * open_width + k = omega arith in
           ap (cell_at zs) z ∙ a.inside k b ∙ ap (λ (zs : List ℕ). pos (get_or zs k 0)) e ∙ same_cell ss n k b
+
+  pub open_all_lem : (n i : ℕ) (ys : List ℤ) → i ≤ n → n ≤ i → OpenPut ss at i xs ys → OpenPut ss at n xs ys
+  open_all_lem n i ys a b p = let e : i ≡ n = omega arith in rw e at p
 
 -- of the first n alone
 module _ (ss : List Running) (n : ℕ) (l : n ≤ length ss) where
