@@ -28,6 +28,10 @@ row_within j m w h = let k : j + 1 ≤ m = omega arith in omega (arith, mul-le-m
 pub row_small : (cells : List ℤ) (j m w : ℕ) → j < m → SmallFirst cells (m * w) → SmallFirst cells (j * w + w)
 row_small cells j m w h = fewer_small (j * w + w) (row_within j m w h)
 
+-- the cells of i and those before it, of n that have w each from a place on
+pub part_small : (cells : List ℤ) (base i n w : ℕ) → i < n → SmallFirst cells (base + n * w) → SmallFirst cells (base + i * w + w)
+part_small cells base i n w h = fewer_small (base + i * w + w) (omega (arith, row_within i n w h))
+
 module _ (h : Hour) (p : Progress) (v : valid h ≡ true) (run : reconstructed h ≡ accepted p) where
   -- all cells are small
   pub small_cells : (k : ℕ) → SmallCell (cell_at (cells_of h p) k)
