@@ -1,6 +1,6 @@
 -- The records of a spreadsheet file as what is written one after another.
 use Rattle.std.specs.Prelude.{◌≡◌, refl, Bool, true, false, List, [], ◌∷◌, ◌++◌, ℕ, zero, suc, ◌+◌, ◌-◌, ◌*◌, ◌≤◌, eqb, ℤ, pos, length, get_or, take, drop}
-use Rattle.std.proofs.Common.{ap, ◌∙◌, append_assoc, arith, length-append}
+use Rattle.std.proofs.Common.{ap, ◌∙◌, append_assoc, arith, length-append, take_all}
 use Rattle.rules.specs.Words.{when◌then◌else◌, text}
 use Rattle.rules.specs.Fields.{digits, Chars}
 use Rattle.rules.specs.Report.{ReportLine, hour, pair, internal, end, refusal}
@@ -70,14 +70,19 @@ front_doubled (c ∷ cs) = front_then (front_character c) (front_doubled cs)
 pub front_label : (cs : Chars) → Front (label_field cs)
 front_label cs = front_then (front_two 44 34) (front_then (front_doubled cs) (front_byte 34))
 
-doubled_each : (cs : Chars) (rest : List ℕ) → up_to (doubled_at cs) (length cs) rest ≡ doubled cs rest
+-- the first n bytes, each in its turn
+pub doubled_all : (n : ℕ) (bs : List ℕ) (rest : List ℕ) → up_to (doubled_at bs) (length (take n bs)) rest ≡ doubled (take n bs) rest
 unfolding sheet.doubled inked.up_to
-doubled_each [] rest = refl
-doubled_each (c ∷ cs) rest = up_to_first (doubled_at (c ∷ cs)) (length cs) rest ∙ ap (doubled_text c) (doubled_each cs rest)
+doubled_all zero bs rest = refl
+doubled_all (suc n) [] rest = refl
+doubled_all (suc n) (b ∷ bs) rest = up_to_first (doubled_at (b ∷ bs)) (length (take n bs)) rest ∙ ap (doubled_text b) (doubled_all n bs rest)
 
--- characters, each in its turn
-pub doubled_all : {bs cs : Chars} → bs ≡ cs → (rest : List ℕ) → up_to (doubled_at bs) (length bs) rest ≡ doubled cs rest
-doubled_all {bs} e rest = doubled_each bs rest ∙ ap (λ (w : Chars). doubled w rest) e
+-- all of them
+pub doubled_whole : {bs cs : Chars} → bs ≡ cs → (rest : List ℕ) → up_to (doubled_at bs) (length bs) rest ≡ doubled cs rest
+doubled_whole {bs} e rest =
+    let same : take (length bs) bs ≡ bs = take_all (length bs) bs (omega arith) in
+    let each : up_to (doubled_at bs) (length bs) rest ≡ doubled bs rest = rw same at (doubled_all (length bs) bs rest) in
+    each ∙ ap (λ (w : Chars). doubled w rest) e
 
 -- before what comes after it
 doubled_then : (cs : Chars) (rest w : List ℕ) → doubled cs rest ++ w ≡ doubled cs (rest ++ w)

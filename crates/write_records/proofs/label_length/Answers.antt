@@ -4,7 +4,7 @@ use native.Mathlib.Omega.{arith}
 use lib.ListN.{length, get_or}
 use Rattle.rules.specs.Record.{chars}
 use Rattle.write_fields.specs.Inked.{up_to, length_none, length_more}
-use Rattle.write_records.specs.Records.{doubled_at, front_character, doubled_all, label_length}
+use Rattle.write_records.specs.Records.{doubled_at, front_character, doubled_whole, label_length}
 use Rattle.write_records.proofs.label_length.Goals as goal
 
 pub loop-c-init : goal.loop-c-init
@@ -20,6 +20,6 @@ pub returns : goal.returns
 returns c =
     let cs = c.characters-c-items.result.now in
     let e : c.loop-c.c-index ≡ length cs = omega arith in
-    let all = ap length (doubled_all c.characters-c-items.ensures.0 []) in
+    let all = ap length (doubled_whole c.characters-c-items.ensures.0 []) in
     let same = ap (λ k. length (up_to (doubled_at cs) k [])) e in
     (omega (arith, same, all, label_length (chars c.args.l)), omega arith)
