@@ -83,7 +83,8 @@ pub fn take_turns(
             let line = h.directs[q];
             let source = line.source;
             let delivery = line.delivery;
-            if keys[delivery] == key {
+            let its = keys[delivery];
+            if its == key {
                 let s = states[source];
                 let t = group::allocate(s, line);
                 took += (t.d - s.d) as u64;
