@@ -2,9 +2,13 @@
 // output, each with whether it could be written; and on descriptor 3 how the run ended, for the program that started this one.
 #![tactic(auto)]
 
-ghost use Rattle.std.specs.Prelude.{◌≡◌, ◌≤◌, ◌<◌, ◌+◌, ◌++◌, ◌∷◌, [], length, take, OnOk, IfOk, IfSome};
+ghost use Rattle.std.specs.Prelude.{◌≡◌, ◌⊎◌, ◌≤◌, ◌<◌, ◌+◌, ◌++◌, ◌∷◌, [], List, ℕ, length, take, nat_eq, OnOk, IfOk, IfErr, IfSome};
+ghost use Rattle.std.specs.List.{starts_with};
+ghost use Rattle.std.specs.Fn.{FnOnceReturnsAt};
 ghost use Rattle.std.specs.Fmt.{decimal};
+ghost use Rattle.std.specs.Process.{exit_status};
 ghost use Rattle.std.specs.Io.KnownBytes.{Appends};
+ghost use Rattle.frames.specs.Statuses.{status_of};
 
 use std::fs;
 use std::fs::OpenOptions;
@@ -72,7 +76,9 @@ fn tell<R: Files>(rt: &R, ended: Result<Ending, Failure>) {
 }
 
 // The exit status: 0, but where nobody reads the answers that of a program that such a pipe killed, as shells have it.
-fn status(ended: Result<Ending, Failure>) -> ExitCode {
+fn status(ended: Result<Ending, Failure>) -> ExitCode
+    ensures { exit_status result ≡ status_of ended }
+{
     match ended {
         Err(Failure::Unheard) => ExitCode::from(141),
         _ => ExitCode::SUCCESS,
@@ -80,7 +86,9 @@ fn status(ended: Result<Ending, Failure>) -> ExitCode {
 }
 
 // What a program does last: it tells how it ended, and gives its exit status.
-pub fn end<R: Files>(rt: &R, ended: Result<Ending, Failure>) -> ExitCode {
+pub fn end<R: Files>(rt: &R, ended: Result<Ending, Failure>) -> ExitCode
+    ensures { exit_status result ≡ status_of ended }
+{
     tell(rt, ended);
     status(ended)
 }
@@ -92,6 +100,7 @@ pub fn answer<I: Read, F: FnOnce(&[u8]) -> Result<Ending, Failure>>(
     put: F,
 ) -> Result<Ending, Failure>
     requires { F.IsAlwaysCallable put }
+    ensures { (result ≡ Err Failure.Unread) ⊎ ((s : List ℕ) × (length s ≤ length buffer.old) × FnOnceReturnsAt F.FnOnce put s result) }
 {
     let mut window = Window::new(buffer);
     window.fill(input)?;
@@ -116,7 +125,13 @@ pub struct Window<'a> {
 }
 
 impl<'a> Window<'a> {
-    pub fn new(bytes: &'a mut [u8]) -> Window<'a> {
+    ghost use Rattle.std.specs.Borrow.{sem};
+    ghost use Rattle.frames.specs.Room.{SameRoom, RestsAsLong};
+
+    pub fn new(bytes: &'a mut [u8]) -> Window<'a>
+        ensures lent { (result.bytes.ghost_name ≡ bytes.entry.ghost_name) × (result.bytes.now ≡ bytes.old) }
+        ensures fresh { (result.from ≡ 0) × (result.have ≡ 0) }
+    {
         Window {
             bytes,
             from: 0,
@@ -134,7 +149,8 @@ impl<'a> Window<'a> {
     // One read of the input to after what is there: how many bytes came, 0 at the input's end.
     fn more<I: Read>(&mut self, input: &mut I) -> Result<usize, Error>
         ensures came { IfOk result (λ n. self.new.have ≡ self.old.have + n) }
-        ensures kept { (self.new.from ≡ self.old.from) × (length self.new.bytes.now ≡ length self.old.bytes.now) }
+        ensures stays { (self.new.from ≡ self.old.from) × (self.old.have ≤ self.new.have) }
+        ensures kept { SameRoom self.old self.new }
     {
         let n = input.read(&mut self.bytes[self.have..])?;
         self.have += n;
@@ -144,7 +160,7 @@ impl<'a> Window<'a> {
     // What is not used yet, moved to the front.
     fn to_front(&mut self)
         ensures moved { (self.new.from ≡ 0) × (self.old.from + self.new.have ≡ self.old.have) }
-        ensures kept { length self.new.bytes.now ≡ length self.old.bytes.now }
+        ensures kept { SameRoom self.old self.new }
     {
         self.bytes.copy_within(self.from..self.have, 0);
         self.have -= self.from;
@@ -152,7 +168,11 @@ impl<'a> Window<'a> {
     }
 
     // The window filled from the input, or as far as the input goes.
-    pub fn fill<I: Read>(&mut self, input: &mut I) -> Result<(), Failure> {
+    pub fn fill<I: Read>(&mut self, input: &mut I) -> Result<(), Failure>
+        ensures stays { (self.new.from ≡ self.old.from) × (self.old.have ≤ self.new.have) × (self.new.have ≤ length self.new.bytes.now) }
+        ensures kept { SameRoom self.old self.new }
+        ensures unread { IfErr result (λ e. e ≡ Failure.Unread) }
+    {
         // no `for`: a read gives as many bytes as there are, here and below
         while self.have < self.bytes.len() {
             if self.more(input).map_err(|_| Failure::Unread)? == 0 {
@@ -164,7 +184,8 @@ impl<'a> Window<'a> {
 
     // The head of the frame that comes next, as soon as that frame is whole or the head tells that it is too long for a deck; none at the input's end.
     fn head<I: Read>(&mut self, input: &mut I) -> Result<Option<Head>, NoFrame>
-        ensures { IfOk result (λ o. IfSome o (λ h. (self.new.from + h.start ≤ self.new.have) × (h.size ≤ 8192 → (self.new.from + h.start) + h.size ≤ self.new.have))) }
+        ensures whole { IfOk result (λ o. IfSome o (λ h. (self.new.from + h.start ≤ self.new.have) × (h.size ≤ 8192 → (self.new.from + h.start) + h.size ≤ self.new.have))) }
+        ensures kept { SameRoom self.old self.new }
     {
         loop {
             if let Some(head) = head_of(self.unused())? {
@@ -185,7 +206,8 @@ impl<'a> Window<'a> {
     // A frame that is too long for a deck, read to its end: its head comes to the window's front, and the rest of the window takes its bytes.
     fn pass_over<I: Read>(&mut self, input: &mut I, head: Head) -> Result<(), NoFrame>
         requires { self.old.from + head.start ≤ self.old.have }
-        ensures { OnOk result (head.start ≤ self.new.have) }
+        ensures passed { OnOk result (head.start ≤ self.new.have) }
+        ensures kept { SameRoom self.old self.new }
     {
         self.to_front();
         let mut left = head.size;
@@ -200,20 +222,39 @@ impl<'a> Window<'a> {
         Ok(())
     }
 
-    // The next frame, read as far as it must be and no further; none at the input's end.
-    pub fn next<I: Read>(&mut self, input: &mut I) -> Result<Option<Frame<'_>>, NoFrame> {
+    // The next frame, read as far as it must be and no further: the place where it starts, and its head; none at the input's end.
+    fn advance<I: Read>(&mut self, input: &mut I) -> Result<Option<(usize, Head)>, NoFrame>
+        ensures whole { IfOk result (λ o. IfSome o (λ x. (x.0 + x.1.start ≤ self.new.have) × (x.1.size ≤ 8192 → (x.0 + x.1.start) + x.1.size ≤ self.new.have))) }
+        ensures kept { SameRoom self.old self.new }
+    {
         let Some(head) = self.head(input)? else {
             return Ok(None);
         };
-        let at = if MOST < head.size {
+        if MOST < head.size {
             self.pass_over(input, head)?;
-            0
-        } else {
-            let at = self.from;
-            self.from += head.start + head.size as usize;
-            at
+            return Ok(Some((0, head)));
+        }
+        let at = self.from;
+        self.from += head.start + head.size as usize;
+        Ok(Some((at, head)))
+    }
+
+    // The frame that starts at a place.
+    fn frame(&self, at: usize, head: Head) -> Frame<'_>
+        requires head { at + head.start ≤ self.now.have }
+        requires deck { head.size ≤ 8192 → (at + head.start) + head.size ≤ self.now.have }
+    {
+        framed(&self.bytes[at..], head)
+    }
+
+    // The next frame; none at the input's end.
+    pub fn next<'w, I: Read>(&'w mut self, input: &mut I) -> Result<Option<Frame<'w>>, NoFrame>
+        ensures* kept { sem 𝓛 (RestsAsLong self.entry) }
+    {
+        let Some((at, head)) = self.advance(input)? else {
+            return Ok(None);
         };
-        Ok(Some(framed(&self.bytes[at..], head)))
+        Ok(Some(self.frame(at, head)))
     }
 }
 
@@ -387,6 +428,8 @@ pub fn put_line<W: Write>(out: &mut W, word: &[u8], n: u64) -> Result<(), Failur
 }
 
 // Whether a report is that of a refused deck: the one line `refused`, where any other starts with `hour`.
-pub fn tells_refusal(report: &[u8]) -> bool {
+pub fn tells_refusal(report: &[u8]) -> bool
+    ensures { result ≡ starts_with nat_eq report.now (114 ∷ []) }
+{
     report.starts_with(b"r")
 }
