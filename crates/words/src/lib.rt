@@ -160,11 +160,14 @@ fn put_deck(text: &mut Text, deck: &[u8]) -> fmt::Result {
     }
 }
 
-// A file that is refused for its record k.
+// A file that is refused for its record k. No file has a record 0: it is shown as an empty line.
 fn put_file(text: &mut Text, file: &[u8], k: usize) -> fmt::Result {
     let r = Refusal::FileRecord(k);
     put_head(text, r)?;
-    let (above, record) = lines::line_at(file, k);
+    let (above, record) = match k {
+        0 if !file.is_empty() => lines::line_at(b"\n", 1),
+        _ => lines::line_at(file, k),
+    };
     put_shown(text, "record", record, records::text_of(record))?;
     put_any(text, records::found(above, record))?;
     put_tail(text, r)
@@ -195,7 +198,7 @@ fn refusal_of(number: usize) -> Option<Refusal> {
 
 fn put_number(text: &mut Text, number: usize) -> fmt::Result {
     let Some(r) = refusal_of(number) else {
-        return Ok(());
+        return write!(text, "refused {number}: \nwhat to do: \n");
     };
     put_head(text, r)?;
     put_tail(text, r)
@@ -219,7 +222,7 @@ pub fn explain_record(file: &[u8], k: usize, out: &mut [u8]) -> usize
     text::put(out, |text| put_file(text, file, k))
 }
 
-// The words of a refusal by its number alone: for a deck that is not at hand.
+// The words of a refusal by its number alone: for a deck that is not at hand. A number that no refusal has gets both lines, without words.
 pub fn explain_number(number: usize, out: &mut [u8]) -> usize
     ensures { result ≤ length out.old }
 {
