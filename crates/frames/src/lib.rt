@@ -2,12 +2,12 @@
 // output, each with whether it could be written; and on descriptor 3 how the run ended, for the program that started this one.
 #![tactic(auto)]
 
-ghost use Rattle.std.specs.Prelude.{◌≡◌, ◌⊎◌, ◌≤◌, ◌<◌, ◌+◌, ◌++◌, ◌∷◌, [], List, ℕ, length, take, nat_eq, OnOk, IfOk, IfErr, IfSome};
+ghost use Rattle.std.specs.Prelude.{◌≡◌, ◌⊎◌, ◌≤◌, ◌<◌, ◌+◌, ◌++◌, ◌∷◌, [], List, ℕ, length, take, drop, slice_range, nat_eq, OnOk, IfOk, IfErr, IfSome};
 ghost use Rattle.std.specs.List.{starts_with};
 ghost use Rattle.std.specs.Fn.{FnOnceReturnsAt};
 ghost use Rattle.std.specs.Fmt.{decimal};
 ghost use Rattle.std.specs.Process.{exit_status};
-ghost use Rattle.std.specs.Io.KnownBytes.{Appends};
+ghost use Rattle.std.specs.Io.KnownBytes.{Appends, Consumes, IsAtEnd};
 ghost use Rattle.frames.specs.Statuses.{status_of};
 
 use std::fs;
@@ -93,14 +93,14 @@ pub fn end<R: Files>(rt: &R, ended: Result<Ending, Failure>) -> ExitCode
     status(ended)
 }
 
-// How a run ends that puts one answer to all that it reads, in a lent buffer.
+// How a run ends that puts one answer to all that it reads, in a lent buffer: the whole input, or as much as the buffer takes.
 pub fn answer<I: Read, F: FnOnce(&[u8]) -> Result<Ending, Failure>>(
     input: &mut I,
     buffer: &mut [u8],
     put: F,
 ) -> Result<Ending, Failure>
     requires { F.IsAlwaysCallable put }
-    ensures { (result ≡ Err Failure.Unread) ⊎ ((s : List ℕ) × (length s ≤ length buffer.old) × FnOnceReturnsAt F.FnOnce put s result) }
+    ensures { (result ≡ Err Failure.Unread) ⊎ ((s : List ℕ) × (length s ≤ length buffer.old) × Consumes (I.remaining input.old) (I.remaining input.new) s × ((length s ≡ length buffer.old) ⊎ IsAtEnd (I.remaining input.new)) × FnOnceReturnsAt F.FnOnce put s result) }
 {
     let mut window = Window::new(buffer);
     window.fill(input)?;
@@ -141,7 +141,8 @@ impl<'a> Window<'a> {
 
     // The bytes that are not used yet.
     pub fn unused(&self) -> &[u8]
-        ensures { self.now.from + length result.now ≡ self.now.have }
+        ensures size { self.now.from + length result.now ≡ self.now.have }
+        ensures bytes { result.now ≡ slice_range self.now.bytes.now self.now.from self.now.have }
     {
         &self.bytes[self.from..self.have]
     }
@@ -150,7 +151,9 @@ impl<'a> Window<'a> {
     fn more<I: Read>(&mut self, input: &mut I) -> Result<usize, Error>
         ensures came { IfOk result (λ n. self.new.have ≡ self.old.have + n) }
         ensures stays { (self.new.from ≡ self.old.from) × (self.old.have ≤ self.new.have) }
+        ensures front { take self.old.have self.new.bytes.now ≡ take self.old.have self.old.bytes.now }
         ensures kept { SameRoom self.old self.new }
+        ensures read { IfOk result (λ n. Consumes (I.remaining input.old) (I.remaining input.new) (take n (drop self.old.have self.new.bytes.now)) × (n ≡ 0 → self.old.have < length self.old.bytes.now → IsAtEnd (I.remaining input.new))) }
     {
         let n = input.read(&mut self.bytes[self.have..])?;
         self.have += n;
@@ -170,7 +173,10 @@ impl<'a> Window<'a> {
     // The window filled from the input, or as far as the input goes.
     pub fn fill<I: Read>(&mut self, input: &mut I) -> Result<(), Failure>
         ensures stays { (self.new.from ≡ self.old.from) × (self.old.have ≤ self.new.have) × (self.new.have ≤ length self.new.bytes.now) }
+        ensures front { take self.old.have self.new.bytes.now ≡ take self.old.have self.old.bytes.now }
         ensures kept { SameRoom self.old self.new }
+        ensures read { OnOk result (Consumes (I.remaining input.old) (I.remaining input.new) (slice_range self.new.bytes.now self.old.have self.new.have)) }
+        ensures whole { OnOk result ((self.new.have ≡ length self.new.bytes.now) ⊎ IsAtEnd (I.remaining input.new)) }
         ensures unread { IfErr result (λ e. e ≡ Failure.Unread) }
     {
         // no `for`: a read gives as many bytes as there are, here and below
