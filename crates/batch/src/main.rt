@@ -4,6 +4,9 @@
 // descriptor 3 goes how the run ended, and on 4, where somebody watches, how many decks are done.
 #![tactic(auto)]
 
+ghost use Rattle.std.specs.Prelude.{◌++◌};
+ghost use Rattle.std.specs.Fmt.{decimal};
+
 use desk::Asker;
 use frames::{Asked, Ending, Failure, Frame, NoFrame, Window};
 use std::io::{Read, Write};
@@ -21,6 +24,10 @@ struct Sender<'a, 'f, W, E> {
 }
 
 impl<W: Write, E: Write> Asker for Sender<'_, '_, W, E> {
+    ghost sent = { λ s. W.contents s.out.now };
+
+    ghost head = { λ s word n. word ++ (decimal n ++ s.rest.now) };
+
     fn put(&mut self, word: &[u8], text: &[u8], n: usize) -> Result<(), Failure> {
         frames::put_answer(self.out, word, self.rest, text, n)
     }
