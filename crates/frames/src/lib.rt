@@ -2,7 +2,7 @@
 // output, each with whether it could be written; and on descriptor 3 how the run ended, for the program that started this one.
 #![tactic(auto)]
 
-ghost use Rattle.std.specs.Prelude.{◌≡◌, ◌⊎◌, ◌≤◌, ◌<◌, ◌+◌, ◌++◌, ◌∷◌, [], List, ℕ, length, take, drop, slice_range, nat_eq, OnOk, IfOk, IfErr, IfSome};
+ghost use Rattle.std.specs.Prelude.{◌≡◌, ◌⊎◌, ◌≤◌, ◌<◌, ◌+◌, ◌++◌, ◌∷◌, [], List, ℕ, length, take, drop, slice_range, nat_eq, OnOk, IfOk, IfErr, IfSome, IfNone};
 ghost use Rattle.std.specs.List.{starts_with};
 ghost use Rattle.std.specs.Fn.{FnOnceReturnsAt};
 ghost use Rattle.std.specs.Fmt.{decimal};
@@ -190,6 +190,7 @@ impl<'a> Window<'a> {
 
     // The head of the frame that comes next, as soon as that frame is whole or the head tells that it is too long for a deck; none at the input's end.
     fn head<I: Read>(&mut self, input: &mut I) -> Result<Option<Head>, NoFrame>
+        ensures ended { IfOk result (λ o. IfNone o (0 < length self.old.bytes.now → IsAtEnd (I.remaining input.new))) }
         ensures whole { IfOk result (λ o. IfSome o (λ h. (self.new.from + h.start ≤ self.new.have) × (h.size ≤ 8192 → (self.new.from + h.start) + h.size ≤ self.new.have))) }
         ensures kept { SameRoom self.old self.new }
     {
@@ -230,6 +231,7 @@ impl<'a> Window<'a> {
 
     // The next frame, read as far as it must be and no further: the place where it starts, and its head; none at the input's end.
     fn advance<I: Read>(&mut self, input: &mut I) -> Result<Option<(usize, Head)>, NoFrame>
+        ensures ended { IfOk result (λ o. IfNone o (0 < length self.old.bytes.now → IsAtEnd (I.remaining input.new))) }
         ensures whole { IfOk result (λ o. IfSome o (λ x. (x.0 + x.1.start ≤ self.new.have) × (x.1.size ≤ 8192 → (x.0 + x.1.start) + x.1.size ≤ self.new.have))) }
         ensures kept { SameRoom self.old self.new }
     {
@@ -256,6 +258,7 @@ impl<'a> Window<'a> {
     // The next frame; none at the input's end.
     pub fn next<'w, I: Read>(&'w mut self, input: &mut I) -> Result<Option<Frame<'w>>, NoFrame>
         ensures* kept { sem 𝓛 (RestsAsLong self.entry) }
+        ensures ended { IfOk result (λ o. IfNone o (0 < length self.old.bytes.now → IsAtEnd (I.remaining input.new))) }
     {
         let Some((at, head)) = self.advance(input)? else {
             return Ok(None);
