@@ -256,7 +256,7 @@ impl<'a> Window<'a> {
     }
 
     // The next frame; none at the input's end.
-    pub fn next<'w, I: Read>(&'w mut self, input: &mut I) -> Result<Option<Frame<'w>>, NoFrame>
+    pub fn next<I: Read>(&mut self, input: &mut I) -> Result<Option<Frame<'_>>, NoFrame>
         ensures* kept { sem 𝓛 (RestsAsLong self.entry) }
         ensures ended { IfOk result (λ o. IfNone o (0 < length self.old.bytes.now → IsAtEnd (I.remaining input.new))) }
     {
