@@ -1,8 +1,9 @@
 -- What is sent for a deck, and how the run then ends.
-use Rattle.std.specs.Prelude.{◌≡◌, refl, Bool, true, false, List, [], ◌∷◌, ◌++◌, ℕ, ◌≤◌, length, take, drop, ltb, nat_eq, Ok, Err}
+use Rattle.std.specs.Prelude.{◌≡◌, refl, Bool, true, false, List, [], ◌∷◌, ◌++◌, ℕ, ◌≤◌, length, take, drop, ltb, nat_eq, Option, None, Some, IfSome, Result, Ok, Err, OnOk}
 use Rattle.std.proofs.Common.{arith, le-ltb}
 use Rattle.std.proofs.Math.Seq.{take-append_seam}
 use Rattle.std.specs.List.{starts_with}
+use Rattle.std.specs.Io.KnownBytes.{Appends}
 use Rattle.rules.specs.Words.{when◌then◌else◌, text}
 use Rattle.rules.specs.Answers.{written_of}
 use Rattle.rules.specs.Refusals.{Outcome, accepted, refused, refuse, and_then}
@@ -20,6 +21,7 @@ use Rattle.rules.specs.declared.Refusal.TheVariants.{Short}
 use Rattle.roundtrip.specs.DeckRoundTrip.{accepted_is_valid}
 use Rattle.write_spreadsheet.specs.FileFits.{most_file, file_fits}
 use Rattle.frames.specs.declared.Ending.{Ending}
+use Rattle.frames.specs.declared.Failure.{Failure}
 use Rattle.frames.specs.declared.Ending.TheVariants.{Written, Refused}
 
 -- the lines of a deck's report, or why the deck is refused
@@ -44,6 +46,13 @@ report_sent head s = with_head head (text "report ") (report s)
 abbrev pub file_sent : Head → List ℕ → Outcome (List ReportLine) → List ℕ
 file_sent head s (accepted ls) = with_head head (text "spreadsheet ") (file_text ls)
 file_sent head s (refused r) = report_sent head s
+
+-- what an asker's put promises, whether or not it is known what was sent before
+pub appended : (r : Result (Unit {0}) Failure) (before after : Option (List ℕ)) (bs : List ℕ) → IfSome before (λ xs. OnOk r (Appends (Some xs) after bs)) → OnOk r (Appends before after bs)
+appended (Ok u) None after bs h = tt
+appended (Err e) None after bs h = tt
+appended (Ok u) (Some xs) after bs h = h
+appended (Err e) (Some xs) after bs h = tt
 
 -- A call's text, in a lent buffer that it left.
 

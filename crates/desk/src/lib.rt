@@ -2,7 +2,7 @@
 // The contracts cite Sent for what is sent of a deck and how the run then ends. Which words, no contract says (words).
 #![tactic(auto)]
 
-ghost use Rattle.std.specs.Prelude.{◌≡◌, ◌≤◌, ◌++◌, [], List, ℕ, Option, take, OnOk, IfOk};
+ghost use Rattle.std.specs.Prelude.{◌≡◌, ◌≤◌, ◌++◌, [], List, ℕ, Option, None, Some, take, OnOk, IfOk, IfSome};
 ghost use Rattle.std.specs.Io.KnownBytes.{Appends};
 ghost use Rattle.desk.specs.Sent.{deck_lines, ending_of, report_sent, file_sent};
 
@@ -10,17 +10,17 @@ use frames::{Ending, Failure};
 use std::io::Write;
 use words::WORDS;
 
-// Who is answered.
+// Who is answered. What was sent to them an asker need not say: then nothing is asked of it, and nothing is known.
 pub trait Asker {
     // What has been sent to them, where it is known.
-    ghost sent: { Self → Option (List ℕ) };
+    ghost sent: { Self → Option (List ℕ) } = { λ asker. None };
 
     // What stands before so many bytes of an answer of a kind.
-    ghost head: { Self → List ℕ → ℕ → List ℕ };
+    ghost head: { Self → List ℕ → ℕ → List ℕ } = { λ asker word n. [] };
 
     // The first n bytes of a text, an answer of the kind that a word names.
     fn put(&mut self, word: &[u8], text: &[u8], n: usize) -> Result<(), Failure>
-        ensures { OnOk result (Appends (sent self.old) (sent self.new) (head self.old word.now n ++ take n text.now)) };
+        ensures { IfSome (sent self.old) (λ before. OnOk result (Appends (Some before) (sent self.new) (head self.old word.now n ++ take n text.now))) };
 
     // Words about what is refused, for a person. Where standard error is closed, nobody reads them.
     fn explain(&mut self, text: &[u8])
@@ -85,4 +85,47 @@ pub fn put_spreadsheet<A: Asker>(asker: &mut A, deck: &[u8]) -> Result<Ending, F
     };
     asker.put(b"spreadsheet ", &text, n)?;
     Ok(Ending::Written)
+}
+
+#[cfg(test)]
+mod tests {
+    use super::*;
+
+    // An asker that does not say what was sent, but how long the last of it is.
+    #[derive(Drop)]
+    struct Sizes {
+        answer: usize,
+        words: usize,
+    }
+
+    impl Asker for Sizes {
+        fn put(&mut self, _word: &[u8], _text: &[u8], n: usize) -> Result<(), Failure>
+            ensures { self.new.answer ≡ n }
+        {
+            self.answer = n;
+            Ok(())
+        }
+
+        fn explain(&mut self, text: &[u8])
+            ensures { self.new.answer ≡ self.old.answer }
+        {
+            self.words = text.len();
+        }
+    }
+
+    #[test]
+    fn an_asker_need_not_say_what_was_sent(rt: HostRuntime) {
+        let mut asker = Sizes {
+            answer: 0,
+            words: 0,
+        };
+        let deck = b"H 0\nE\n";
+        assert!(rt; matches!(put_report(&mut asker, deck), Ok(Ending::Written)));
+        assert_eq!(rt; (asker.answer, asker.words), (17, 0));
+        assert!(rt; matches!(put_spreadsheet(&mut asker, deck), Ok(Ending::Written)));
+        assert_eq!(rt; (asker.answer, asker.words), (70, 0));
+        assert!(rt; matches!(put_spreadsheet(&mut asker, b""), Ok(Ending::Refused)));
+        assert_eq!(rt; asker.answer, 12);
+        assert!(rt; 0 < asker.words);
+    }
 }

@@ -1,7 +1,7 @@
 -- A file is sent as a report is; where there is none, the report is what is due.
-use Rattle.std.proofs.Common.{OnOk, sym, subst, ◌∙◌, rules}
+use Rattle.std.proofs.Common.{Ok, OnOk, sym, subst, ◌∙◌, rules}
 use Rattle.std.specs.Io.KnownBytes.{Appends}
-use Rattle.desk.specs.Sent.{file_put, file_refused}
+use Rattle.desk.specs.Sent.{appended, file_put, file_refused}
 use Rattle.desk.proofs.put_spreadsheet.Goals as goal
 
 pub returns-in_default-clause-sent : goal.returns-in_default-clause-sent
@@ -12,7 +12,7 @@ returns-in_default-clause-sent g c =
 pub returns-clause-sent : goal.returns-clause-sent
 returns-clause-sent g c =
     let known = file_put (g.A.Asker.head c.args.asker.now) c.args.deck.now _ _ _ _ (sym c.in-Ok.is ∙ c.deck_spreadsheet.ensures.outcome) c.deck_spreadsheet.ensures.bytes in
-    subst (Appends _ _) known.0 c.in_ok-put.ensures
+    subst (Appends _ _) known.0 (appended (Ok tt) _ _ _ c.in_ok-put.ensures)
 
 pub returns-clause-ending : goal.returns-clause-ending
 returns-clause-ending g c =
