@@ -1,13 +1,14 @@
 -- The steps of reading a number or a basis at a place, and that cutting its value on the way changes nothing.
 use Rattle.std.specs.Prelude.{Some, option_map}
 use mathlib.Core.Path.{◌≡◌, refl, ap, sym, ◌∙◌}
-use mathlib.Core.Bool.{Bool, true, false}
+use mathlib.Core.Bool.{Bool, true, false, ◌&&◌}
 use mathlib.Core.List.{List, [], ◌∷◌}
 use Prim.Native.Nat.{ℕ, suc, ◌+◌, ◌-◌, ◌*◌, ◌<◌, ◌≤◌, min}
 use native.Mathlib.Numerals.{add-one}
 use native.Mathlib.Omega.{arith}
 use lib.ListN.{length, drop, drop_of_length-le}
-use borrow.Author.Tests.{ne_eqb}
+use borrow.Author.Tests.{ne_eqb, eqb-true}
+use lib.Dec.{eqb}
 use Rattle.rules.specs.Words.{when◌then◌else◌}
 use Rattle.rules.specs.Fields as fields
 use Rattle.rules.specs.Fields.{Field, got, malformed, byte, is_digit, run, number_at, basis_from, basis_at}
@@ -82,13 +83,26 @@ module _ (s : List ℕ) (at : ℕ) where
   unfolding fields.number_at
   number_run d z = let k : 0 * 10 + (byte s at - 48) ≡ byte s at - 48 = omega arith in rw (d, ne_eqb (byte s at) 48 z) (run_more s at 0 d ∙ rw k)
 
+  number_read : is_digit (byte s at) ≡ true → (byte s at ≡ 48 → is_digit (byte s (at + 1)) ≡ false) → number_at s at ≡ run 0 at (drop at s)
+  unfolding fields.number_at
+  number_read d z = rw d (go (eqb (byte s at) 48) refl)
+    where
+      go : (p : Bool) → eqb (byte s at) 48 ≡ p → (when p && is_digit (byte s (at + 1)) then malformed else run 0 at (drop at s)) ≡ run 0 at (drop at s)
+      go true e = rw (z (eqb-true (byte s at) 48 e))
+      go false e = refl
+
+  -- the first digit, cut
+  pub cut_first : (most w : ℕ) → is_digit (byte s at) ≡ true → (byte s at ≡ 48 → is_digit (byte s (at + 1)) ≡ false) → w ≡ min (byte s at - 48) most
+      → number_cut most (number_at s at) ≡ number_cut most (run w (at + 1) (drop (at + 1) s))
+  cut_first most w d z e = ap (number_cut most) (number_read d z) ∙ cut_more s at 0 most w d (omega arith)
+
 -- read on from the first digit, cut
-pub cut_first : (s : List ℕ) (f : Field ℕ) (d next most w : ℕ) → run d next (drop next s) ≡ f → w ≡ min d most → number_cut most (run w next (drop next s)) ≡ number_cut most f
-cut_first s f d next most w h e = run_cut (number_cut most) most (λ v w i e. ap (λ (x : ℕ). Some (x, i)) e) (drop next s) w d next (omega arith) ∙ ap (number_cut most) h
+pub cut_on : (s : List ℕ) (f : Field ℕ) (d next most w : ℕ) → run d next (drop next s) ≡ f → w ≡ min d most → number_cut most (run w next (drop next s)) ≡ number_cut most f
+cut_on s f d next most w h e = run_cut (number_cut most) most (λ v w i e. ap (λ (x : ℕ). Some (x, i)) e) (drop next s) w d next (omega arith) ∙ ap (number_cut most) h
 
 pub ruleset number_steps = (number_none, number_zeros, number_zero, number_run, run_stop, digit_within)
 
-pub ruleset cut_steps = (cut_first, cut_stop, cut_end, cut_more)
+pub ruleset cut_steps = (cut_on, cut_stop, cut_end, cut_more)
 
 -- a basis that is no letter
 pub basis_number : (s : List ℕ) (at : ℕ) → (byte s at ≡ 76 → ⊥) → (byte s at ≡ 71 → ⊥) → basis_field (basis_at s at) ≡ option_map (λ (v, next). (Mwh v, next)) (number_field (number_at s at))
